@@ -1,0 +1,2 @@
+pub mod Kepts
+pub mod Turns

@@ -1,0 +1,5 @@
+pub mod State
+pub mod Items
+pub mod Binary
+pub mod Texts
+pub mod Reader

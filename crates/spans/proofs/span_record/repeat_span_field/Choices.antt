@@ -1,0 +1,13 @@
+use Prim.Native.Nat.{_-_}
+use mathlib.Core.Path.{_≡_}
+use Rattle.refusal.specs.Runs.{repeat}
+use Rattle.decode.specs.State.{stateOf, bytesOf, roomOf, Kept}
+use Rattle.spans.specs.Span.{spanField}
+use Rattle.spans.proofs.span_record.repeat_span_field.Given as given
+
+-- what is left to read gives what the whole gives
+abbrev pub Inv-loop : given.InvT-loop
+Inv-loop l =
+    Kept (l .entry .buf) (l .buf) (l .entry .table) (l .table) (l .entry .records) (l .records)
+    × (repeat (spanField (bytesOf (l .entry .buf)) (roomOf (l .entry .table) (l .entry .records))) (l .count - l .counter) (l .draft) (stateOf (l .buf) (l .table) (l .records))
+    ≡ repeat (spanField (bytesOf (l .entry .buf)) (roomOf (l .entry .table) (l .entry .records))) (l .count) (l .entry .draft) (stateOf (l .entry .buf) (l .entry .table) (l .entry .records)))
