@@ -27,7 +27,6 @@ use decode::read_bin;
 use decode::read_bool;
 use decode::read_f64;
 use decode::read_i64;
-use decode::read_interned_string;
 use decode::read_u8;
 use refusal::Kind;
 use refusal::Layer;
@@ -37,6 +36,7 @@ use span::Place;
 use span::Range;
 use span::Records;
 use span::StringTable;
+use texts::read_interned_string;
 
 // A value straight in a record's map has depth 1.
 pub const LEVELS: usize = 64;

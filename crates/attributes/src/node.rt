@@ -5,7 +5,6 @@ ghost use Rattle.decode.specs.Reader.{nodesPart, reserveIn};
 ghost use Rattle.decode.specs.State.{stateOf, roomOf, Did};
 ghost use Rattle.attributes.specs.Attributes.{close, key, number, content};
 use decode::Buffer;
-use decode::read_interned_string;
 use refusal::Kind;
 use refusal::Layer;
 use refusal::Refusal;
@@ -16,6 +15,7 @@ use span::PlaceRecord;
 use span::Record;
 use span::Records;
 use span::StringTable;
+use texts::read_interned_string;
 
 // What a node's value is, beside the nodes inside it.
 #[derive(Clone, Copy)]

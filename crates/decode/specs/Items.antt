@@ -79,19 +79,6 @@ isBin (i.Array n) = None
 isBin (i.Map n) = None
 isBin (i.Ext n) = None
 
-abbrev pub isStr : Item → Option ℕ
-isStr i.Nil = None
-isStr (i.Bool b) = None
-isStr (i.Unsigned n) = None
-isStr (i.Signed z) = None
-isStr (i.Float n) = None
-isStr (i.Double n) = None
-isStr (i.Str n) = Some n
-isStr (i.Bin n) = None
-isStr (i.Array n) = None
-isStr (i.Map n) = None
-isStr (i.Ext n) = None
-
 abbrev pub isNatural : ℤ → Option ℕ
 isNatural (pos n) = Some n
 isNatural (negsuc n) = None

@@ -18,7 +18,6 @@ use Rattle.span.specs.declared.types.Place.{Place}
 use Rattle.span.specs.Blank.{noPlace}
 use Rattle.span.specs.Held.{fits}
 use Rattle.span.specs.State.{numbered}
-use Rattle.decode.specs.Items.{isStr}
 use Rattle.decode.specs.Binary.{part, enough}
 
 -- what the readers of texts change

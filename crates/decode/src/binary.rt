@@ -1,3 +1,7 @@
+// Copyright 2026-Present Datadog, Inc. https://www.datadoghq.com/
+// SPDX-License-Identifier: Apache-2.0
+// Changed: a binary is a place in the bytes.
+
 // Binaries: a header and as many bytes. A wrong length is refused at the header's first byte, and so are contents that are cut off.
 ghost use mathlib.Core.Path.{_≡_};
 ghost use Rattle.decode.specs.State.{bytesOf};

@@ -2,7 +2,7 @@
 // SPDX-License-Identifier: Apache-2.0
 // Changed: the bytes stay whole, and an offset moves in place of their front.
 
-// The bytes that are read, and how far. A refused item leaves `at` at that item's first byte.
+// The bytes that are read, and how far. A single item that is refused leaves `at` at its first byte.
 ghost use Prim.Native.Nat.{_≤_};
 ghost use lib.ListN.{length};
 

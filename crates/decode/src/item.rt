@@ -1,3 +1,7 @@
+// Copyright 2024-Present Datadog, Inc. https://www.datadoghq.com/
+// SPDX-License-Identifier: Apache-2.0
+// Changed: the bytes stay whole, and an offset moves in place of their front.
+
 // What stands at the place of a buffer.
 ghost use mathlib.Core.Path.{_≡_};
 ghost use Rattle.msgpack.specs.Items.{itemFrom, Within};
@@ -6,6 +10,7 @@ ghost use Prim.Native.Nat.{_≤_};
 ghost use lib.ListN.{length};
 ghost use Rattle.decode.specs.State.{bytesOf};
 ghost use Rattle.decode.specs.Binary.{sliceAt, advanced};
+ghost use Rattle.decode.specs.Texts.{markerAt};
 use crate::Buffer;
 use msgpack::Item;
 use msgpack::item_at;
@@ -22,6 +27,24 @@ impl<'a> Buffer<'a> {
         ensures { λ r. ⌜ r ≡ now (self .entry) .at ⌝ }
     {
         self.at
+    }
+
+    // All the bytes.
+    pub fn bytes(&self) -> &'a [u8]
+        ensures { λ r. ⌜ now r ≡ bytesOf (now (self .entry)) ⌝ }
+    {
+        self.bytes
+    }
+
+    // The first byte of the next item.
+    pub fn marker(&self) -> Option<u8>
+        ensures { λ r. ⌜ r ≡ markerAt (bytesOf (now (self .entry))) (now (self .entry) .at) ⌝ }
+    {
+        if self.at < self.bytes.len() {
+            Some(self.bytes[self.at])
+        } else {
+            None
+        }
     }
 
     // The item at the present place, and the offset behind its head; the buffer does not move.

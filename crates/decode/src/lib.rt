@@ -1,10 +1,9 @@
-// Bytes with a place that the readers move, and the readers of single items and of texts.
+// Bytes with a place that the readers move, and the readers of single items.
 mod binary;
 mod buffer;
 mod headers;
 mod item;
 mod numbers;
-mod texts;
 
 pub use binary::read_bin;
 pub use binary::read_trace_id;
@@ -18,5 +17,3 @@ pub use numbers::read_i64;
 pub use numbers::read_int;
 pub use numbers::read_u8;
 pub use numbers::read_u32;
-pub use texts::read_interned_string;
-pub use texts::read_string;

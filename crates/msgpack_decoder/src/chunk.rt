@@ -15,7 +15,6 @@ use decode::Buffer;
 use decode::read_array_len;
 use decode::read_bool;
 use decode::read_i32;
-use decode::read_interned_string;
 use decode::read_map_len;
 use decode::read_trace_id;
 use decode::read_u8;
@@ -32,6 +31,7 @@ use span::SpanRecord;
 use span::StringTable;
 use span::TraceChunk;
 use spans::decode_span;
+use texts::read_interned_string;
 
 // A chunk whose fields are being read, and whether the two that must be there were.
 #[derive(Clone, Copy)]

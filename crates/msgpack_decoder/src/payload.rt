@@ -14,7 +14,6 @@ use crate::payload_text::set_text;
 use attributes::LEVELS;
 use attributes::read_attributes_map;
 use decode::Buffer;
-use decode::read_interned_string;
 use decode::read_map_len;
 use decode::read_u8;
 use refusal::Kind;
@@ -26,6 +25,7 @@ use span::Record;
 use span::Records;
 use span::StringTable;
 use span::TracerPayload;
+use texts::read_interned_string;
 
 // A payload whose fields are being read, and whether its chunks were.
 #[derive(Clone, Copy)]

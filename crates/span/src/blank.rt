@@ -1,3 +1,7 @@
+// Copyright 2026-Present Datadog, Inc. https://www.datadoghq.com/
+// SPDX-License-Identifier: Apache-2.0
+// Changed: the defaults are written out.
+
 // Each kind of record as it is before anything is read: the source's defaults.
 ghost use mathlib.Core.Path.{_≡_};
 ghost use Rattle.span.specs.Blank.{noPlace, blankNode, blankLink, blankEvent, blankSpan, blankChunk, blankPayload};

@@ -10,6 +10,7 @@ ghost use Rattle.span.specs.Held.{pushed, fits};
 ghost use Rattle.span.specs.State.{textsOf, most, numbered};
 use crate::Place;
 use crate::PlaceRecord;
+use crate::Record;
 use crate::StringTable;
 
 impl StringTable<'_> {
@@ -28,15 +29,7 @@ impl StringTable<'_> {
     {
         let index = id as usize;
         if index < self.texts.len() {
-            Some(
-                self.texts.get_or(
-                    index,
-                    Place {
-                        offset: 0,
-                        length: 0,
-                    },
-                ),
-            )
+            Some(self.texts.get_or(index, Place::blank()))
         } else {
             None
         }

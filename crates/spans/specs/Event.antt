@@ -44,8 +44,8 @@ module _ (input : List ℕ) (room : Room) where
       repeat eventField n blankEvent >>= λ d.
       writeIn eventsPart index d
 
-  -- all events of a span, as a range of the pool
-  abbrev pub events : Read Range
+  -- All events of a span, as a range of the pool. Not an `abbrev`: what stands above need not look inside.
+  unfoldable pub events : Read Range
   events s =
       (placed (itemOf isArray input Span) >>= λ n.
       repeat event n tt >>= λ u.

@@ -53,8 +53,8 @@ module _ (input : List ℕ) (room : Room) where
       repeat linkField n blankLink >>= λ d.
       writeIn linksPart index d
 
-  -- all links of a span, as a range of the pool
-  abbrev pub links : Read Range
+  -- All links of a span, as a range of the pool. Not an `abbrev`: what stands above need not look inside.
+  unfoldable pub links : Read Range
   links s =
       (placed (itemOf isArray input Span) >>= λ n.
       repeat link n tt >>= λ u.

@@ -120,8 +120,9 @@ module _ (input : List ℕ) (room : Room) where
   abbrev pub spanField : SpanDraft → Read SpanDraft
   spanField d = placed (itemOf (upTo 0xff) input layer.Span) >>= λ k. spanAt k d
 
-  -- a record is taken before its header is read, and written when all its fields are
-  abbrev pub span : Unit {0} → Read (Unit {0})
+  -- A record is taken before its header is read, and written when all its fields are. Not an `abbrev`: what stands
+  -- above need not look inside.
+  unfoldable pub span : Unit {0} → Read (Unit {0})
   span u s =
       (reserveIn spansPart layer.Span room >>= λ index.
       placed (itemOf isMap input layer.Span) >>= λ n.

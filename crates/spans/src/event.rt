@@ -13,7 +13,6 @@ use attributes::read_attributes_map;
 use decode::Buffer;
 use decode::read_array_len;
 use decode::read_int;
-use decode::read_interned_string;
 use decode::read_map_len;
 use decode::read_u8;
 use refusal::Kind;
@@ -26,6 +25,7 @@ use span::Record;
 use span::Records;
 use span::SpanEvent;
 use span::StringTable;
+use texts::read_interned_string;
 
 // One field: its key, and what that key holds. A key that comes again replaces what it had.
 fn read_span_event_field(

@@ -17,7 +17,6 @@ use attributes::read_attributes_map;
 use decode::Buffer;
 use decode::read_bool;
 use decode::read_int;
-use decode::read_interned_string;
 use decode::read_map_len;
 use decode::read_u8;
 use decode::read_u32;
@@ -31,6 +30,7 @@ use span::Span;
 use span::SpanKind;
 use span::SpanRecord;
 use span::StringTable;
+use texts::read_interned_string;
 
 // The largest start and duration: both are signed, and 0 at least.
 const MOST_NANOS: u64 = 0x7fff_ffff_ffff_ffff;

@@ -7,9 +7,9 @@ ghost use mathlib.Core.Path.{_≡_};
 ghost use Prim.Native.Nat.{_≤_};
 ghost use lib.ListN.{length};
 ghost use Rattle.span.specs.State.{most};
 ghost use Rattle.decode.specs.State.{bytesOf, stringsOf};
-ghost use Rattle.decode.specs.Texts.{contents, stringAt, literal, byNumber, textIn, markerAt};
-use crate::Buffer;
+ghost use Rattle.decode.specs.Texts.{contents, stringAt, literal, byNumber, textIn};
+use decode::Buffer;
 use msgpack::Item;
 use refusal::Kind;
 use refusal::Layer;
@@ -18,32 +18,22 @@ use span::Place;
 use span::StringTable;
 use utf8::is_utf8;
 
-// The first byte of the next item.
-fn marker(buf: &Buffer<'_>) -> Option<u8>
-    ensures { λ r. ⌜ r ≡ markerAt (bytesOf (now (buf .entry))) (now (buf .entry) .at) ⌝ }
-{
-    if buf.at < buf.bytes.len() {
-        Some(buf.bytes[buf.at])
-    } else {
-        None
-    }
-}
-
-// The contents of a string, of `n` bytes from the offset on, whose first byte is at `buf.at`.
+// The contents of a string, of `n` bytes from the offset on, whose first byte is where the buffer stands.
 fn read_contents(buf: &mut Buffer<'_>, offset: usize, n: u32) -> Result<Place, Refusal>
     requires { ⌜ offset ≤ length (bytesOf (now buf)) ⌝ }
     ensures ran { λ r. ⌜ (r, now (buf .exit) .at) ≡ contents (bytesOf (now (buf .entry))) offset n (now (buf .entry) .at) ⌝ }
     ensures kept { λ _. ⌜ bytesOf (now (buf .exit)) ≡ bytesOf (now (buf .entry)) ⌝ }
 {
+    let bytes = buf.bytes();
     let length = n as usize;
-    if length > buf.bytes.len() - offset {
-        return Err(Refusal::new(Kind::IOError, Layer::Text, buf.at));
+    if length > bytes.len() - offset {
+        return Err(Refusal::new(Kind::IOError, Layer::Text, buf.offset()));
     }
     let end = offset + length;
-    if !is_utf8(&buf.bytes[offset..end]) {
-        return Err(Refusal::new(Kind::Utf8Error, Layer::Text, buf.at));
+    if !is_utf8(&bytes[offset..end]) {
+        return Err(Refusal::new(Kind::Utf8Error, Layer::Text, buf.offset()));
     }
-    buf.at = end;
+    buf.seek(end);
     Ok(Place { offset, length })
 }
 
@@ -52,15 +42,15 @@ pub fn read_string(buf: &mut Buffer<'_>) -> Result<Place, Refusal>
     ensures ran { λ r. ⌜ (r, now (buf .exit) .at) ≡ stringAt (bytesOf (now (buf .entry))) (now (buf .entry) .at) ⌝ }
     ensures kept { λ _. ⌜ bytesOf (now (buf .exit)) ≡ bytesOf (now (buf .entry)) ⌝ }
 {
-    let Some(marker) = marker(buf) else {
-        return Err(Refusal::new(Kind::InvalidFormat, Layer::Text, buf.at));
+    let Some(marker) = buf.marker() else {
+        return Err(Refusal::new(Kind::InvalidFormat, Layer::Text, buf.offset()));
     };
     match marker {
         0xa0..=0xbf | 0xd9..=0xdb => match buf.item() {
             Some((Item::Str(n), offset)) => read_contents(buf, offset, n),
-            _ => Err(Refusal::new(Kind::InvalidConversion, Layer::Text, buf.at)),
+            _ => Err(Refusal::new(Kind::InvalidConversion, Layer::Text, buf.offset())),
         },
-        _ => Err(Refusal::new(Kind::InvalidType, Layer::Text, buf.at)),
+        _ => Err(Refusal::new(Kind::InvalidType, Layer::Text, buf.offset())),
     }
 }
 
@@ -70,7 +60,7 @@ fn read_literal(buf: &mut Buffer<'_>, table: &mut StringTable<'_>) -> Result<Pla
     ensures kept { λ _. ⌜ bytesOf (now (buf .exit)) ≡ bytesOf (now (buf .entry)) ⌝ }
     ensures most { λ _. ⌜ most (now (table .exit)) ≡ most (now (table .entry)) ⌝ }
 {
-    let at = buf.at;
+    let at = buf.offset();
     let text = read_string(buf)?;
     if table.record(text) {
         Ok(text)
@@ -86,11 +76,11 @@ fn read_number(buf: &mut Buffer<'_>, table: &StringTable<'_>) -> Result<Place, R
 {
     if let Some((Item::Unsigned(id), end)) = buf.item() {
         if let Some(text) = table.resolve(id) {
-            buf.at = end;
+            buf.seek(end);
             return Ok(text);
         }
     }
-    Err(Refusal::new(Kind::InvalidFormat, Layer::Text, buf.at))
+    Err(Refusal::new(Kind::InvalidFormat, Layer::Text, buf.offset()))
 }
 
 pub fn read_interned_string(
@@ -101,12 +91,12 @@ pub fn read_interned_string(
     ensures kept { λ _. ⌜ bytesOf (now (buf .exit)) ≡ bytesOf (now (buf .entry)) ⌝ }
     ensures most { λ _. ⌜ most (now (table .exit)) ≡ most (now (table .entry)) ⌝ }
 {
-    let Some(marker) = marker(buf) else {
-        return Err(Refusal::new(Kind::InvalidFormat, Layer::Text, buf.at));
+    let Some(marker) = buf.marker() else {
+        return Err(Refusal::new(Kind::InvalidFormat, Layer::Text, buf.offset()));
     };
     match marker {
         0xa0..=0xbf | 0xd9..=0xdb => read_literal(buf, table),
         0x00..=0x7f | 0xcc..=0xcf => read_number(buf, table),
-        _ => Err(Refusal::new(Kind::InvalidFormat, Layer::Text, buf.at)),
+        _ => Err(Refusal::new(Kind::InvalidFormat, Layer::Text, buf.offset())),
     }
 }
