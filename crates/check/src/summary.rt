@@ -1,9 +1,7 @@
 // What was read, by counts.
-ghost use mathlib.Core.Path.{_≡_};
 ghost use Rattle.decode.specs.State.{roomOf};
-ghost use Rattle.msgpack_decoder.specs.Whole.{decoded};
-ghost use Rattle.check.specs.Counted.{counted};
-use msgpack_decoder::from_slice;
+ghost use Rattle.check.specs.Counted.{Counted};
+use reading::read;
 use refusal::Refusal;
 use span::ChunkRecord;
 use span::EventRecord;
@@ -30,9 +28,9 @@ pub fn summary(
     records: &mut Records<'_>,
     table: &mut StringTable<'_>,
 ) -> Result<Counts, Refusal>
-    ensures { λ r. ⌜ r ≡ counted (decoded (now (input .entry)) (roomOf (now (table .entry)) (now (records .entry)))) ⌝ }
+    ensures { λ r. ⌜ Counted (now (input .entry)) (roomOf (now (table .entry)) (now (records .entry))) r ⌝ }
 {
-    let found = from_slice(input, records, table)?;
+    let found = read(input, records, table)?;
     Ok(Counts {
         read: found.read,
         chunks: records.chunks.len(),

@@ -1,0 +1,4 @@
+pub mod Standings
+pub mod Shown
+pub mod Promise
+pub mod Laws
