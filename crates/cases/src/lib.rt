@@ -4,6 +4,7 @@ ghost use Rattle.decode.specs.State.{roomOf};
 ghost use Rattle.msgpack_decoder.specs.Whole.{decoded};
 ghost use Rattle.cases.specs.Answers.{answered, answerOf};
 ghost use Rattle.cases.specs.Cases.{Cases-stand};
+ghost use Rattle.cases.specs.Written.{Cases-written};
 use msgpack_decoder::from_slice;
 use span::ChunkRecord;
 use span::EventRecord;
@@ -33,6 +34,13 @@ pub enum Answer {
 // The definition of reading computes what the worked cases say.
 pub fn cases_stand() -> bool
     ensures { λ _. ⌜ Cases-stand ⌝ }
+{
+    true
+}
+
+// The worked cases that are read are writings of the format.
+pub fn cases_written() -> bool
+    ensures { λ _. ⌜ Cases-written ⌝ }
 {
     true
 }

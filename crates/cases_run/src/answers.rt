@@ -121,7 +121,7 @@ static IN_CHECK: [(&str, Answer); 55] = [
     (INPUT, Read(221, 1, 1, 1, 1, 7, 20)),
 ];
 
-// With so many texts and chunks.
+// With pools of so many texts and so many chunks.
 static IN_POOLS: [(&str, usize, usize, Answer); 19] = [
     // The text pool has at least one entry, and no pool more than 65,535.
     ("81 0B 90", 0, 1, Refused(7, 0, 0)),
@@ -170,7 +170,7 @@ static IN_POOLS: [(&str, usize, usize, Answer); 19] = [
     ),
 ];
 
-// With so many texts and chunks, and one of each other record.
+// With pools of so many texts and chunks, and of one record of each other kind.
 fn answer_with(
     heap: Global,
     input: &[u8],

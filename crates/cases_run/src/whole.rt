@@ -21,6 +21,8 @@ use span::TraceChunk;
 use span::TracerPayload;
 use std::test::*;
 
+// One field or two to a line, but for arrays. The payload's env is the text with number 2, and the chunk's attribute "a"
+// the one with number 5, the skipped "x". The last byte lies behind the payload.
 pub const INPUT: &str = "
     87
     02 A1 63
@@ -44,6 +46,7 @@ pub const INPUT: &str = "
     FF
 ";
 
+// Whether the place holds those bytes.
 fn holds(input: &[u8], place: Place, expected: &[u8]) -> bool {
     let end = place.offset.saturating_add(place.length);
     input.get(place.offset..end) == Some(expected)

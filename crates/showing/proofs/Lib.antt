@@ -1,0 +1,4 @@
+pub mod Nodes
+pub mod Values
+pub mod Answered
+pub mod Walks
