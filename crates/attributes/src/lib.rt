@@ -1,4 +1,6 @@
 // Attribute maps and lists, as flat nodes in the order in which they are read.
+#![tactic(auto)]
+
 mod keys;
 mod map;
 mod node;

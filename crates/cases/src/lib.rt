@@ -1,4 +1,6 @@
 // The worked cases of the format.
+#![tactic(auto)]
+
 ghost use Rattle.std.specs.Prelude.{◌≡◌};
 ghost use Rattle.decode.specs.State.{room_of};
 ghost use Rattle.msgpack_decoder.specs.Whole.{decoded};

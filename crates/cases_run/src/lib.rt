@@ -1,4 +1,6 @@
 // Readings that run: inputs as text, and what reading them answers.
+#![tactic(auto)]
+
 #[cfg(test)]
 mod answers;
 #[cfg(test)]

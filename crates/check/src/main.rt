@@ -1,4 +1,6 @@
 // Reads a payload from standard input and says in one line what it holds, or why it is refused.
+#![tactic(auto)]
+
 mod fill;
 mod summary;
 

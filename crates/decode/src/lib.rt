@@ -1,4 +1,6 @@
 // Bytes with a place that the readers move, and the readers of single items.
+#![tactic(auto)]
+
 mod binary;
 mod buffer;
 mod headers;

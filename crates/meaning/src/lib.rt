@@ -1,4 +1,6 @@
 // The reader and the relation of writings: what one accepts, the other says. Functions that carry the laws.
+#![tactic(auto)]
+
 ghost use Rattle.meaning.specs.Laws.{Unique, FrontFree, Excludes};
 
 // No bytes can be read two ways, and no beginning of a writing is one.

@@ -1,4 +1,6 @@
 // The formats of MessagePack: what item some bytes begin with.
+#![tactic(auto)]
+
 ghost use Rattle.msgpack.specs.Laws.{Agrees, Behind};
 
 mod exts;

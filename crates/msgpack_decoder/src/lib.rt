@@ -1,4 +1,6 @@
 // Payloads: their chunks, and the whole of one from bytes.
+#![tactic(auto)]
+
 mod chunk;
 mod keys;
 mod payload;

@@ -1,4 +1,6 @@
 // Reading a payload: what is accepted and what is answered, in the words of the format.
+#![tactic(auto)]
+
 ghost use Rattle.std.specs.Prelude.{◌≡◌};
 ghost use Rattle.span.specs.State.{most, rooms_of, held_of, memory_of, blank_behind};
 ghost use Rattle.decode.specs.State.{room_of};

@@ -3,6 +3,8 @@
 // Changed: the first five kinds are the source's DecodeError; layers, places and the other kinds are added.
 
 // Why a call refuses: a kind, the layer of the item that is refused, and a place.
+#![tactic(auto)]
+
 ghost use Rattle.std.specs.Prelude.{◌≡◌};
 ghost use Rattle.refusal.specs.Numbers.{kind_number, layer_number};
 ghost use Rattle.refusal.specs.Runs.{refusal_at};

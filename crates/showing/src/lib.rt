@@ -1,4 +1,6 @@
 // What `text` and `value` answer is what the payload has there. A function that carries the laws.
+#![tactic(auto)]
+
 ghost use Rattle.showing.specs.Laws.{TextShown, TextAnswered, ValueShown, ValueAnswered, KeyShown, Walk, End};
 
 // The text at a place, the value and the key of a node, and a range of nodes, one item after the other.

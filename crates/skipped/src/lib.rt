@@ -3,6 +3,8 @@
 // Changed: the value is walked twice over the bytes, in place of a tree that is built and walked.
 
 // A value under an unknown key: it is stepped over, and its strings take their numbers.
+#![tactic(auto)]
+
 ghost use Rattle.std.specs.Prelude.{◌≡◌};
 ghost use Rattle.refusal.specs.Runs.{repeat};
 ghost use Rattle.span.specs.State.{most};

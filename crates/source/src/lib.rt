@@ -1,4 +1,6 @@
 // What records show: the parts of the bytes that their places and nodes name.
+#![tactic(auto)]
+
 mod node;
 mod part;
 mod types;

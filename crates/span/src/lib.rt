@@ -1,4 +1,6 @@
 // The records of a payload and the pools that hold them.
+#![tactic(auto)]
+
 mod blank;
 mod kind;
 mod make;

@@ -1,4 +1,6 @@
 // Spans, and the links and events that they hold.
+#![tactic(auto)]
+
 mod event;
 mod keys;
 mod link;

@@ -3,6 +3,8 @@
 // Changed: a text is a place in the bytes, and the formats are read by our own functions.
 
 // Texts: in full, or by the number that an earlier one has taken.
+#![tactic(auto)]
+
 ghost use Rattle.std.specs.Prelude.{◌≡◌, ◌≤◌, length};
 ghost use Rattle.span.specs.State.{most};
 ghost use Rattle.decode.specs.State.{bytes_of, strings_of};

@@ -1,4 +1,6 @@
 // Well-formed UTF-8 (Unicode, Table 3-7), as a machine that takes one byte at a time.
+#![tactic(auto)]
+
 ghost use Rattle.std.specs.Prelude.{◌≡◌};
 ghost use Rattle.utf8.specs.Machine.{stepped, accepts, well_formed};
 ghost use Rattle.utf8.specs.Table.{AcceptsTable, AcceptsText};

@@ -1,4 +1,6 @@
 // The format of a trace payload: what bytes are a writing of it.
+#![tactic(auto)]
+
 ghost use Rattle.wire.specs.Stands.{Independent};
 
 // A writing is the same one whatever follows it.
