@@ -3,18 +3,18 @@ use Rattle.std.proofs.lemmas.Result.{err_from_is_err_and}
 use Rattle.span.specs.State.{held_of}
 use Rattle.check.proofs.summary.summary.Goals as goal
 
-pub returns-in-err-found : goal.returns-in-err-found
-returns-in-err-found c =
-    let p = err_from_is_err_and c.from-residual.result c.from-residual.ensures.1 in
-    let e = c.in-err-found.ensures in
+pub returns-in_err-found : goal.returns-in_err-found
+returns-in_err-found c =
+    let p = err_from_is_err_and c.from_residual.result c.from_residual.ensures.1 in
+    let e = c.in_err-found.ensures in
     rw (p.1, p.2) (record { blank = refl; none_fits = e.promise.none_fits }, e.refusal)
 
 pub returns : goal.returns
 returns c =
-    let found = c.in-ok-found.found in (
+    let found = c.in_ok-found.found in (
       found,
       held_of c.read.new.table c.read.new.records,
-      c.in-ok-found.ensures.promise,
+      c.in_ok-found.ensures.promise,
       λ j. record {
         read = found.read;
         chunks = c.len.ensures j;

@@ -8,15 +8,15 @@ pub loop-preserved : goal.loop-preserved
 loop-preserved c =
     let a = c.args in
     let l = c.loop in
-    let e = c.in-ok-decode-chunk.ensures in
+    let e = c.in_ok-decode_chunk.ensures in
     (kept-also l.invariant.0 e.kept, turn_more chunk a.buf.now l.buf a.table.now l.table a.records.now l.records l.invariant.0 tt l.invariant.1 c.loop-test.true e.ran)
 
-pub returns-in-err-decode-chunk : goal.returns-in-err-decode-chunk
-returns-in-err-decode-chunk c =
-    let p = err_from_is_err_and c.from-residual.result c.from-residual.ensures.1 in
+pub returns-in_err-decode_chunk : goal.returns-in_err-decode_chunk
+returns-in_err-decode_chunk c =
+    let p = err_from_is_err_and c.from_residual.result c.from_residual.ensures.1 in
     let a = c.args in
     let l = c.loop in
-    let e = c.in-err-decode-chunk.ensures in
+    let e = c.in_err-decode_chunk.ensures in
     rw
     (p.1, p.2)
     record {

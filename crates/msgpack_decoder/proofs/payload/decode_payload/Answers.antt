@@ -2,13 +2,13 @@ use Rattle.std.proofs.Common.{rules}
 use Rattle.msgpack_decoder.specs.Payload.{payload}
 use Rattle.msgpack_decoder.proofs.payload.decode_payload.Goals as goal
 
-pub returns-in-err-count : goal.returns-in-err-count
+pub returns-in_err-count : goal.returns-in_err-count
 unfolding payload
-returns-in-err-count c = search rules
+returns-in_err-count c = search rules
 
-pub returns-in-err-repeat-payload-field : goal.returns-in-err-repeat-payload-field
+pub returns-in_err-repeat_payload_field : goal.returns-in_err-repeat_payload_field
 unfolding payload
-returns-in-err-repeat-payload-field c = search rules
+returns-in_err-repeat_payload_field c = search rules
 
 pub returns-then-draft : goal.returns-then-draft
 unfolding payload

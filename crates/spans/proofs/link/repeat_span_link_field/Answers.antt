@@ -8,15 +8,15 @@ pub loop-preserved : goal.loop-preserved
 loop-preserved c =
     let a = c.args in
     let l = c.loop in
-    let e = c.in-ok-read-span-link-field.ensures in
+    let e = c.in_ok-read_span_link_field.ensures in
     (kept-also l.invariant.0 e.kept, turn_more link_field a.buf.now l.buf a.table.now l.table a.records.now l.records l.invariant.0 l.link l.invariant.1 c.loop-test.true e.ran)
 
-pub returns-in-err-read-span-link-field : goal.returns-in-err-read-span-link-field
-returns-in-err-read-span-link-field c =
-    let p = err_from_is_err_and c.from-residual.result c.from-residual.ensures.1 in
+pub returns-in_err-read_span_link_field : goal.returns-in_err-read_span_link_field
+returns-in_err-read_span_link_field c =
+    let p = err_from_is_err_and c.from_residual.result c.from_residual.ensures.1 in
     let a = c.args in
     let l = c.loop in
-    let e = c.in-err-read-span-link-field.ensures in
+    let e = c.in_err-read_span_link_field.ensures in
     rw
     (p.1, p.2)
     record {

@@ -6,17 +6,17 @@ pub returns-then-not-push : goal.returns-then-not-push
 unfolding span
 returns-then-not-push c = search rules
 
-pub returns-in-err-count : goal.returns-in-err-count
+pub returns-in_err-count : goal.returns-in_err-count
 unfolding span
-returns-in-err-count c = search rules
+returns-in_err-count c = search rules
 
-pub returns-in-err-repeat-span-field : goal.returns-in-err-repeat-span-field
+pub returns-in_err-repeat_span_field : goal.returns-in_err-repeat_span_field
 unfolding span
-returns-in-err-repeat-span-field c = search rules
+returns-in_err-repeat_span_field c = search rules
 
-pub returns-in-err-span : goal.returns-in-err-span
+pub returns-in_err-span : goal.returns-in_err-span
 unfolding span
-returns-in-err-span c = search rules
+returns-in_err-span c = search rules
 
 pub returns : goal.returns
 unfolding span
