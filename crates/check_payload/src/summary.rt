@@ -1,6 +1,6 @@
 // What was read, by counts.
 ghost use Rattle.decode.specs.State.{room_of};
-ghost use Rattle.check.specs.Counted.{Counted};
+ghost use Rattle.check_payload.specs.Counted.{Counted};
 
 use reading::read;
 use refusal::Refusal;

@@ -6,7 +6,7 @@ use Rattle.decode.specs.Reader.{Room}
 use Rattle.msgpack_decoder.specs.declared.whole.ReadPayload.{ReadPayload}
 use Rattle.meaning.specs.Promise.{Decodes}
 use Rattle.reading.specs.Refusals.{Which}
-use Rattle.check.specs.declared.summary.Counts.{Counts}
+use Rattle.check_payload.specs.declared.summary.Counts.{Counts}
 
 abbrev pub counts_of : ReadPayload → Held → Counts
 counts_of p h =
