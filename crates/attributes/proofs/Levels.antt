@@ -1,5 +1,5 @@
 -- One level of an entry or a member. Assumes nothing.
-use Rattle.std.proofs.Common.{◌≡◌, ℕ, zero, suc, ◌+◌, ◌-◌, ◌/◌, ◌%◌, ◌<◌, Bool, eqb, List, Ok, sym, ap, ◌∙◌, arith, eq-eqb}
+use Rattle.std.proofs.Common.{◌≡◌, ℕ, suc, ◌-◌, ◌/◌, ◌%◌, ◌<◌, Bool, eqb, List, Ok, sym, ap, ◌∙◌, arith, eq-eqb}
 use Rattle.refusal.specs.Runs.{RanOn, then, refuse, pick, repeat}
 use Rattle.refusal.specs.declared.Kind.TheVariants.{TooDeep, InvalidFormat}
 use Rattle.refusal.specs.declared.Layer.TheVariants.{Attribute}

@@ -1,17 +1,16 @@
 -- Attribute maps and lists. Assumes nothing.
-use Rattle.std.specs.Prelude.{ℕ, zero, suc, ◌+◌, ◌-◌, ◌/◌, ◌%◌, Bool, true, false, cond, List, length, ℤ, Ok, Err, ◌==◌}
+use Rattle.std.specs.Prelude.{ℕ, zero, suc, ◌-◌, ◌/◌, ◌%◌, Bool, true, false, List, length, Ok, ◌==◌}
 use Rattle.std.specs.Int.{w64}
 use Rattle.std.proofs.Common.{of_z}
-use Rattle.refusal.specs.Runs.{ReadOn, then, ◌>>=◌, give, refuse, pick, repeat}
+use Rattle.refusal.specs.Runs.{then, ◌>>=◌, give, refuse, pick, repeat}
 use Rattle.refusal.specs.declared.Kind.TheVariants.{InvalidFormat, TooDeep}
 use Rattle.refusal.specs.declared.Layer.TheVariants.{Attribute}
 use Rattle.span.specs.Blank.{no_place, range_of}
 use Rattle.span.specs.declared.types.Place.{Place}
 use Rattle.span.specs.declared.types.Range.{Range}
-use Rattle.span.specs.declared.types.Node.{Node}
 use Rattle.decode.specs.Items.{item_of, is_bool, is_double, is_array, integer, up_to}
 use Rattle.decode.specs.Binary.{bin_at}
-use Rattle.decode.specs.Reader.{State, Room, Read, nodes_part, reserve_in, write_in, placed, text}
+use Rattle.decode.specs.Reader.{Room, Read, nodes_part, reserve_in, write_in, placed, text}
 use Rattle.attributes.specs.declared.node.Body.{Body}
 
 -- writes the node at the index, now that all that belongs to it lies behind it

@@ -1,5 +1,5 @@
 -- What readers keep, one after the other. Assumes nothing.
-use Rattle.std.proofs.Common.{◌≡◌, ◌∙◌}
+use Rattle.std.proofs.Common.{◌∙◌}
 use Rattle.span.specs.declared.table.StringTable.{StringTable}
 use Rattle.span.specs.declared.records.Records.{Records}
 use Rattle.decode.specs.declared.buffer.Buffer.{Buffer}

@@ -1,8 +1,5 @@
 -- Binaries. Assumes nothing.
-use Rattle.std.specs.Prelude.{ℕ, ◌+◌, ◌-◌, Bool, true, false, cond, List, length, take, drop, Some, None, Ok, Err, Option, ◌==◌, nat_le}
-use Rattle.msgpack.specs.declared.Item.{Item}
-use Rattle.msgpack.specs.declared.Item.TheVariants as i
-use Rattle.msgpack.specs.Items.{item_from}
+use Rattle.std.specs.Prelude.{ℕ, ◌+◌, ◌-◌, Bool, cond, List, length, take, drop, Some, None, Ok, Err, Option, ◌==◌, nat_le}
 use Rattle.refusal.specs.Runs.{RanOn, ReadOn, refuse, pick}
 use Rattle.refusal.specs.declared.Kind.TheVariants.{InvalidFormat}
 use Rattle.refusal.specs.declared.Layer.{Layer}

@@ -1,9 +1,9 @@
 -- Plain items: which items a reader takes, and for what. Assumes nothing.
-use Rattle.std.specs.Prelude.{ℕ, ◌<◌, Bool, true, false, cond, List, ℤ, pos, negsuc, Some, None, Ok, Err, Option, nat_le, nat_lt}
+use Rattle.std.specs.Prelude.{ℕ, Bool, cond, List, ℤ, pos, negsuc, Some, None, Ok, Option, nat_le, nat_lt}
 use Rattle.msgpack.specs.declared.Item.{Item}
 use Rattle.msgpack.specs.declared.Item.TheVariants as i
 use Rattle.msgpack.specs.Items.{item_from}
-use Rattle.refusal.specs.Runs.{RanOn, ReadOn, give, refuse, pick}
+use Rattle.refusal.specs.Runs.{RanOn, ReadOn, refuse}
 use Rattle.refusal.specs.declared.Kind.TheVariants.{InvalidFormat}
 use Rattle.refusal.specs.declared.Layer.{Layer}
 

@@ -1,5 +1,5 @@
 -- What the readers of records change, and what they run within. Assumes nothing.
-use Rattle.std.specs.Prelude.{ℕ, List, [], ◌∷◌, ◌++◌, length, Ok, Err, slice_set}
+use Rattle.std.specs.Prelude.{ℕ, List, [], ◌∷◌, ◌++◌, length, Ok, slice_set}
 use Rattle.refusal.specs.Runs.{RanOn, ReadOn, refuse, pick}
 use Rattle.refusal.specs.declared.Kind.TheVariants.{PoolFull}
 use Rattle.refusal.specs.declared.Layer.{Layer}
@@ -12,7 +12,7 @@ use Rattle.span.specs.declared.types.SpanLink.{SpanLink}
 use Rattle.span.specs.declared.types.SpanEvent.{SpanEvent}
 use Rattle.span.specs.declared.types.Span.{Span}
 use Rattle.span.specs.declared.types.TraceChunk.{TraceChunk}
-use Rattle.decode.specs.Texts.{Strings, on_at, text_in}
+use Rattle.decode.specs.Texts.{Strings, text_in}
 
 pub record State : Type 0 where
   pub at : ℕ

@@ -1,14 +1,13 @@
 -- Texts. Assumes nothing.
-use Rattle.std.specs.Prelude.{ℕ, ◌+◌, ◌-◌, Bool, true, false, cond, ◌&&◌, ◌||◌, List, [], ◌∷◌, ◌++◌, length, Some, None, Ok, Err, Option, nat_le, nat_lt, slice_index}
+use Rattle.std.specs.Prelude.{ℕ, ◌+◌, Bool, cond, ◌&&◌, ◌||◌, List, [], ◌∷◌, ◌++◌, length, Some, None, Ok, Option, nat_le, nat_lt, slice_index}
 use Rattle.msgpack.specs.declared.Item.{Item}
 use Rattle.msgpack.specs.declared.Item.TheVariants as i
 use Rattle.msgpack.specs.Items.{item_from}
 use Rattle.utf8.specs.Machine.{well_formed}
-use Rattle.refusal.specs.Runs.{RanOn, ReadOn, then, give, refuse, pick}
+use Rattle.refusal.specs.Runs.{RanOn, ReadOn, then, refuse, pick}
 use Rattle.refusal.specs.declared.Kind.TheVariants.{InvalidConversion, InvalidType, InvalidFormat, IOError, Utf8Error, TextsFull}
 use Rattle.refusal.specs.declared.Layer.TheVariants.{Text}
 use Rattle.span.specs.declared.types.Place.{Place}
-use Rattle.span.specs.Blank.{no_place}
 use Rattle.span.specs.Held.{fits}
 use Rattle.span.specs.State.{numbered}
 use Rattle.decode.specs.Binary.{part, enough}

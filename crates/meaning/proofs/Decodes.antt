@@ -1,17 +1,17 @@
 -- What reading answers is what is promised. Assumes nothing.
-use Rattle.std.proofs.Common.{◌≡◌, ℕ, ◌≤◌, Bool, true, false, cond, ◌&&◌, ltb, leb, List, [], ◌∷◌, length, Ok, Err, Result, sym, refl, ap, ◌∙◌, subst, arith, ltb-false, ltb-true, le-ltb, lt-ltb, le-leb, leb-true}
+use Rattle.std.proofs.Common.{◌≡◌, ℕ, Bool, true, false, cond, ◌&&◌, ltb, List, length, Ok, Err, Result, sym, refl, ap, ◌∙◌, subst, arith, ltb-false, ltb-true, le-ltb, lt-ltb, le-leb, leb-true}
 use mathlib.Core.Path.{Path}
-use Rattle.refusal.specs.Runs.{RanOn, refusal_at}
+use Rattle.refusal.specs.Runs.{RanOn}
 use Rattle.refusal.specs.declared.Refusal.{Refusal}
 use Rattle.span.specs.State.{Held}
 use Rattle.span.specs.declared.types.TracerPayload.{TracerPayload}
 use Rattle.decode.specs.Reader.{State, Room}
 use Rattle.msgpack_decoder.specs.Payload.{payload}
-use Rattle.msgpack_decoder.specs.Whole.{records_fit, pools_fit, limits, start, ended, limited, decoded, StoppedWithin}
+use Rattle.msgpack_decoder.specs.Whole.{pools_fit, limits, start, ended, limited, decoded, StoppedWithin}
 use Rattle.msgpack_decoder.specs.declared.whole.ReadPayload.{ReadPayload}
-use Rattle.wire.specs.Standing.{start_of, Fits}
+use Rattle.wire.specs.Standing.{Fits}
 use Rattle.meaning.specs.Standings.{standing, rooms_of}
-use Rattle.meaning.specs.Promise.{Allowed, Accepted, Refused, Decodes}
+use Rattle.meaning.specs.Promise.{Allowed, Decodes}
 use Rattle.meaning.proofs.Reading.{exact-sound, exact-complete}
 use Rattle.meaning.proofs.Payloads.{reads-payload}
 use Rattle.meaning.proofs.Unique.{unique}

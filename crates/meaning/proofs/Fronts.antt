@@ -1,7 +1,6 @@
 -- No beginning of a writing is one. Assumes nothing.
-use Rattle.std.proofs.Common.{◌≡◌, ℕ, List, [], ◌∷◌, ◌++◌, sym, refl, ap, ◌∙◌, subst, append-nil}
-use Rattle.wire.specs.Payload.{Payload}
-use Rattle.wire.specs.Standing.{Standing, at, start_of}
+use Rattle.std.proofs.Common.{◌≡◌, ◌++◌, sym, ap, ◌∙◌, subst, append-nil}
+use Rattle.wire.specs.Standing.{at, start_of}
 use Rattle.wire.specs.Records.{PayloadAt}
 use Rattle.wire.proofs.Stands.{independent}
 use Rattle.meaning.specs.Laws.{FrontFree}

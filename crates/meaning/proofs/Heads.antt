@@ -8,7 +8,7 @@ use Rattle.msgpack.proofs.Sound
 use Rattle.msgpack.proofs.Complete
 use Rattle.msgpack.proofs.Writings.{head-shorter}
 use Rattle.refusal.specs.declared.Layer.{Layer}
-use Rattle.decode.specs.Items.{is_bool, is_double, is_map, is_array, is_bin, natural, integer, fits32, narrowed, signed32, up_to, or_refuse, item_taken, item_of}
+use Rattle.decode.specs.Items.{is_bool, is_double, is_map, is_array, is_bin, integer, fits32, narrowed, signed32, up_to, or_refuse, item_taken, item_of}
 use Rattle.decode.specs.Reader.{State, Room, placed}
 use Rattle.wire.specs.Standing.{Standing, Fits}
 use Rattle.wire.specs.Form.{Form, HeadAt, head, IntAt, unsigned, signed, NaturalAt, Within, SignedAt, within, BoolAt, DoubleAt}

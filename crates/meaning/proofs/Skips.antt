@@ -1,6 +1,6 @@
 -- The reader of what is stepped over. It walks the value twice: once to see that it is whole, and then its texts take
 -- their numbers. Assumes nothing.
-use Rattle.std.proofs.Common.{◌≡◌, ℕ, zero, suc, ◌+◌, ◌*◌, Bool, true, false, List, [], ◌∷◌, map, length, drop, Some, None, Option, sym, refl, ap, ◌∙◌, subst, ap₂}
+use Rattle.std.proofs.Common.{◌≡◌, ℕ, zero, suc, ◌+◌, ◌*◌, Bool, true, false, List, [], ◌∷◌, map, drop, Some, None, Option, sym, refl, ap, ◌∙◌, subst, ap₂}
 use borrow.Author.Tests.{clash}
 use Rattle.msgpack.specs.declared.Item.{Item}
 use Rattle.msgpack.specs.declared.Item.TheVariants as i

@@ -1,6 +1,6 @@
 -- Records as they are taken, filled and written: what they say, and what else changes. Assumes nothing.
 use Rattle.std.proofs.Common.{◌≡◌, ℕ, Bool, true, false, List, [], ◌∷◌, ◌++◌, length, set, Ok, sym, refl, ap, ◌∙◌, ap₂, append_assoc, append-nil, arith}
-use mathlib.Core.Option.{Option, some, none}
+use mathlib.Core.Option.{Option, some}
 use lib.Seq.{set-append_seam}
 use Rattle.span.specs.Blank.{range_of}
 use Rattle.span.specs.State.{Pools, no_pools}

@@ -1,5 +1,5 @@
 -- A payload from bytes: the answer or the refusal, and what the table and the records hold afterwards. Assumes nothing.
-use Rattle.std.specs.Prelude.{ℕ, ◌≤◌, Bool, true, false, cond, ◌&&◌, List, [], ◌∷◌, length, Ok, Err, Result, nat_le, nat_lt}
+use Rattle.std.specs.Prelude.{ℕ, ◌≤◌, Bool, cond, ◌&&◌, List, [], ◌∷◌, length, Ok, Err, Result, nat_le, nat_lt}
 use Rattle.refusal.specs.Runs.{RanOn, refusal_at}
 use Rattle.refusal.specs.declared.Kind.TheVariants.{TooLong, BadPool}
 use Rattle.refusal.specs.declared.Layer.TheVariants.{NoLayer}

@@ -1,5 +1,5 @@
 -- One level of a value that is stepped over, and one turn of the loop over its members. Assumes nothing.
-use Rattle.std.proofs.Common.{◌≡◌, ℕ, zero, suc, ◌+◌, ◌-◌, ◌<◌, Bool, List, Ok, Err, sym, ap, ◌∙◌, arith}
+use Rattle.std.proofs.Common.{◌≡◌, ℕ, suc, ◌+◌, ◌-◌, ◌<◌, Bool, List, Ok, Err, ap, ◌∙◌, arith}
 use Rattle.refusal.specs.Runs.{RanOn, refuse, repeat}
 use Rattle.refusal.specs.declared.Kind.TheVariants.{TooDeep}
 use Rattle.refusal.specs.declared.Layer.TheVariants.{Skipped}

@@ -1,10 +1,10 @@
 -- A value that is stepped over. Assumes nothing.
-use Rattle.std.specs.Prelude.{ℕ, zero, suc, ◌+◌, ◌*◌, Bool, true, false, cond, ◌&&◌, List, [], ◌∷◌, ◌++◌, Some, None, Ok, Err, Option}
+use Rattle.std.specs.Prelude.{ℕ, zero, suc, ◌+◌, ◌*◌, Bool, true, false, ◌&&◌, List, [], ◌∷◌, ◌++◌, Some, None, Ok, Option}
 use Rattle.msgpack.specs.declared.Item.{Item}
 use Rattle.msgpack.specs.declared.Item.TheVariants as i
 use Rattle.msgpack.specs.Items.{item_from}
 use Rattle.utf8.specs.Machine.{well_formed}
-use Rattle.refusal.specs.Runs.{RanOn, ReadOn, then, ◌>>=◌, give, refuse, pick, repeat}
+use Rattle.refusal.specs.Runs.{ReadOn, then, give, refuse, pick, repeat}
 use Rattle.refusal.specs.declared.Kind.TheVariants.{InvalidFormat, TooDeep, TextsFull}
 use Rattle.refusal.specs.declared.Layer.TheVariants.{Skipped}
 use Rattle.span.specs.declared.types.Place.{Place}

@@ -1,5 +1,5 @@
 -- What places and nodes show of the bytes. Assumes nothing.
-use Rattle.std.specs.Prelude.{ℕ, ◌+◌, ◌-◌, Bool, true, false, cond, List, length, get_or, take, drop, ℤ, Ok, Err, Result, ◌==◌, nat_le, nat_lt, slice_index_or}
+use Rattle.std.specs.Prelude.{ℕ, ◌+◌, ◌-◌, Bool, cond, List, length, get_or, take, drop, ℤ, Ok, Err, Result, ◌==◌, nat_le, nat_lt, slice_index_or}
 use Rattle.std.specs.Borrow.{Bor}
 use Rattle.std.specs.Int.{w64}
 use Rattle.std.proofs.Common.{to_z}

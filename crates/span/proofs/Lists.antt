@@ -1,5 +1,5 @@
 -- The first records of a slice, as one is written, and those behind them. Assumes nothing.
-use Rattle.std.proofs.Common.{◌≡◌, ℕ, suc, ◌+◌, ◌-◌, ◌<◌, ◌≤◌, Bool, true, false, cond, List, [], ◌∷◌, ◌++◌, length, get_or, take, drop, set, replicate, sym, refl, ap, ◌∙◌, arith, length-set, take-append-drop, length-take-le, get_or-take, drop-drop, drop-set-lt, lt-ltb}
+use Rattle.std.proofs.Common.{◌≡◌, ℕ, suc, ◌+◌, ◌-◌, ◌<◌, ◌≤◌, true, cond, List, [], ◌∷◌, ◌++◌, length, get_or, take, drop, set, replicate, sym, refl, ap, ◌∙◌, arith, length-set, take-append-drop, length-take-le, get_or-take, drop-drop, drop-set-lt, lt-ltb}
 use lib.ListN.{replicate-append-replicate}
 use lib.Seq.{drop-length, take-set-lt, set_out}
 use Rattle.std.proofs.lemmas.List.{take_more_set, replicate_more, get_or_read_under, get_or_past}

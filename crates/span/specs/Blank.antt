@@ -1,5 +1,5 @@
 -- The records before anything is read: the source's defaults. Assumes nothing.
-use Rattle.std.specs.Prelude.{ℕ, true, false, cond, List, [], ◌∷◌, replicate, pos, None, ◌==◌}
+use Rattle.std.specs.Prelude.{ℕ, false, cond, List, replicate, pos, None, ◌==◌}
 use Rattle.span.specs.declared.types.Place.{Place}
 use Rattle.span.specs.declared.types.Range.{Range}
 use Rattle.span.specs.declared.types.Node.{Node}

@@ -1,5 +1,5 @@
 -- What the table and the records hold, to the definitions of the readers. Assumes nothing.
-use Rattle.std.specs.Prelude.{◌≡◌, ℕ, cond, List, [], length, Some, None, Option, nat_lt, slice_index_or}
+use Rattle.std.specs.Prelude.{ℕ, cond, List, [], length, Some, None, Option, nat_lt, slice_index_or}
 use Rattle.span.specs.Held.{held, room, memory, filled}
 use Rattle.span.specs.Blank.{no_place, blank_node, blank_link, blank_event, blank_span, blank_chunk}
 use Rattle.span.specs.declared.table.StringTable.{StringTable}

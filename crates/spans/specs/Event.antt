@@ -1,5 +1,5 @@
 -- Span events. Assumes nothing.
-use Rattle.std.specs.Prelude.{ℕ, Bool, true, false, cond, List, length, ◌==◌}
+use Rattle.std.specs.Prelude.{ℕ, List, length, ◌==◌}
 use Rattle.refusal.specs.Runs.{◌>>=◌, give, pick, repeat}
 use Rattle.refusal.specs.declared.Layer.TheVariants.{Event, Span}
 use Rattle.span.specs.Blank.{range_of, blank_event}

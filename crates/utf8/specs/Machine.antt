@@ -1,5 +1,5 @@
 -- UTF-8 as a fold of a step over the bytes. Assumes nothing.
-use Rattle.std.specs.Prelude.{ℕ, Bool, true, false, cond, ◌&&◌, List, [], ◌∷◌, nat_le}
+use Rattle.std.specs.Prelude.{ℕ, Bool, true, false, cond, List, [], ◌∷◌, nat_le}
 use Rattle.utf8.specs.declared.State.{State}
 use Rattle.utf8.specs.declared.State.TheVariants.{Start, One, Two, Three, E0, Ed, F0, F4, Bad}
 

@@ -1,8 +1,7 @@
 use Rattle.std.proofs.Common.{◌≡◌, ◌≤◌, length, sym, ap, ◌∙◌, subst}
 use Rattle.std.proofs.lemmas.Result.{err_from_is_err_and}
-use Rattle.span.specs.State.{texts_of, pools_of, most, rooms_of}
+use Rattle.span.specs.State.{texts_of, most, rooms_of}
 use Rattle.span.proofs.Memories.{memory-is}
-use Rattle.decode.specs.Reader.{State, Room}
 use Rattle.decode.specs.State.{room_of, state_of, bytes_of}
 use Rattle.msgpack_decoder.specs.Whole.{start}
 use Rattle.msgpack_decoder.proofs.Told.{first-text, has-text, told-limits, told-accepted, told-refused}

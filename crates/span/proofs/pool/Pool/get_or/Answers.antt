@@ -1,4 +1,4 @@
-use Rattle.std.proofs.Common.{◌≡◌, arith}
+use Rattle.std.proofs.Common.{arith}
 use Rattle.span.proofs.Lists.{get-held, get-past}
 use Rattle.span.proofs.pool.Pool.get_or.Goals as goal
 
