@@ -1,4 +1,4 @@
--- What reading into the pools of the program check answers, and what a payload that was read holds. Assumes nothing.
+-- What reading into the pools of the program check_payload answers, and what a payload that was read holds. Assumes nothing.
 use Rattle.std.specs.Prelude.{ℕ, cond, List, [], ◌∷◌, map, length, Some, None, Ok, Err, Option, Result, ◌==◌}
 use Rattle.refusal.specs.Numbers.{kind_number, layer_number}
 use Rattle.refusal.specs.declared.Refusal.{Refusal}

@@ -51,7 +51,7 @@ pub fn answer_in(input: &[u8], records: &mut Records<'_>, table: &mut StringTabl
     }
 }
 
-// In the pools of the program check.
+// In the pools of the program check_payload.
 pub fn answer_to(input: &[u8]) -> Answer
     ensures { result ≡ answer_of input.now }
 {

@@ -8,7 +8,7 @@ use std::alloc::{AllocError, Global};
 use std::process::Abort;
 use std::test::Fail;
 
-// With the pools of the program check.
+// With the pools of the program check_payload.
 static IN_CHECK: [(&str, Answer); 55] = [
     // The worked cases.
     ("81 0B 90", Read(3, 0, 0, 0, 0, 0, 1)),
