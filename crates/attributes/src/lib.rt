@@ -1,7 +1,7 @@
 // Attribute maps and lists, as flat nodes in the order in which they are read.
 #![tactic(auto)]
 
-mod keys;
+mod element;
 mod map;
 mod node;
 

@@ -1,17 +1,19 @@
 // One node: taken before what it holds is read, and written once that is done.
-ghost use Rattle.std.specs.Prelude.{◌≡◌};
+ghost use Rattle.std.specs.Prelude.{◌≡◌, Ok};
 ghost use Rattle.refusal.specs.declared.Layer.TheVariants.{Attribute};
 ghost use Rattle.decode.specs.Reader.{nodes_part, reserve_in};
-ghost use Rattle.decode.specs.State.{state_of, room_of, Did};
+ghost use Rattle.decode.specs.State.{Did};
+ghost use Rattle.attributes.specs.Element.{has_key};
 ghost use Rattle.attributes.specs.Attributes.{close, key, number, content};
 
-use decode::Buffer;
+use crate::element::Element;
+use decode::Decoder;
 use refusal::{Kind, Layer, Refusal};
-use span::{Node, Place, Record, Records, StringTable};
+use span::{Node, Place};
 use texts::read_interned_string;
 
 // What a node's value is, beside the nodes inside it.
-#[derive(Clone, Copy)]
+#[derive(Clone, Copy, Default, PartialEq, Eq, Debug)]
 pub struct Body {
     pub pattern: u64,
     pub place: Place,
@@ -23,48 +25,36 @@ impl Body {
     {
         Body {
             pattern,
-            place: Place::blank(),
+            ..Body::default()
         }
     }
 
     pub fn content(place: Place) -> Body
         ensures { result ≡ content place }
     {
-        Body { pattern: 0, place }
+        Body {
+            place,
+            ..Body::default()
+        }
     }
 }
 
 // Takes the next node.
-pub fn reserve_node(
-    buf: &Buffer<'_>,
-    table: &StringTable<'_>,
-    records: &mut Records<'_>,
-) -> Result<usize, Refusal>
-    ensures { Did (λ input. reserve_in nodes_part Attribute) buf.now buf.now table.now table.now records.old records.new result }
+pub fn reserve_node(decoder: &mut Decoder) -> Result<usize, Refusal>
+    ensures { Did (λ input. reserve_in nodes_part Attribute) decoder.old decoder.new result }
 {
-    let index = records.nodes.len();
-    if records.nodes.push(Node::blank()) {
-        Ok(index)
-    } else {
-        Err(Refusal::new(Kind::PoolFull, Layer::Attribute, buf.offset()))
-    }
+    let at = decoder.offset();
+    let index = decoder.records.nodes.push(Node::default());
+    index.ok_or(Refusal::new(Kind::PoolFull, Layer::Attribute, at))
 }
 
 // Writes the node that was taken at the index, now that all that belongs to it lies behind it.
-pub fn close_node(
-    buf: &Buffer<'_>,
-    table: &StringTable<'_>,
-    records: &mut Records<'_>,
-    index: usize,
-    key: Place,
-    type_number: u8,
-    body: Body,
-)
-    ensures ran { state_of buf.now table.now records.new ≡ (close index key type_number body (state_of buf.now table.now records.old)).1 }
-    ensures kept { room_of table.now records.new ≡ room_of table.now records.old }
+pub fn close_node(decoder: &mut Decoder, index: usize, key: Place, type_number: u8, body: Body)
+    ensures { Did (λ input room. close index key type_number body) decoder.old decoder.new (Ok result) }
 {
-    let inside = records.nodes.len().saturating_sub(index).saturating_sub(1);
-    records.nodes.put(
+    let nodes = &mut decoder.records.nodes;
+    let inside = nodes.len().saturating_sub(index).saturating_sub(1);
+    nodes.put(
         index,
         Node {
             key,
@@ -77,17 +67,11 @@ pub fn close_node(
 }
 
 // The key of a map's entry; a list's member has none.
-pub fn read_key(
-    buf: &mut Buffer<'_>,
-    table: &mut StringTable<'_>,
-    records: &Records<'_>,
-    keyed: bool,
-) -> Result<Place, Refusal>
-    ensures { Did (λ input room. key input room keyed) buf.old buf.new table.old table.new records.now records.now result }
+pub fn read_key(decoder: &mut Decoder, element: Element) -> Result<Place, Refusal>
+    ensures { Did (λ input room. key input room (has_key element)) decoder.old decoder.new result }
 {
-    if keyed {
-        read_interned_string(buf, table)
-    } else {
-        Ok(Place::blank())
+    match element {
+        Element::Entry => read_interned_string(decoder.buf, decoder.table),
+        Element::Member => Ok(Place::default()),
     }
 }

@@ -18,7 +18,7 @@ use Rattle.wire.specs.Records.{PayloadAt}
 use Rattle.meaning.specs.Shown.{also, shown_payload}
 use Rattle.meaning.proofs.Stays.{both}
 use Rattle.meaning.proofs.Decodes.{decodes}
-use Rattle.cases.specs.Answers.{check_room}
+use Rattle.summary.specs.Answers.{check_room}
 use Rattle.cases.specs.Written.{Written, CasesWritten}
 
 -- how many bytes were read, and what the records say
@@ -40,6 +40,6 @@ written input v h = go (decoded input check_room) refl h
         (a.behind, subst (λ x. PayloadAt x (start_of input) a.behind) same a.stands, a.stops ∙ ap (λ k. drop k input) n ∙ drop-length input)
     go (Err x, held) e h = absurd (none-ne-some _ h)
 
-pub cases-written : CasesWritten
+pub cases_written : CasesWritten
 unfolding decoded payload chunks member skip item_from next
-cases-written = ((written _ _ refl, (written _ _ refl, (written _ _ refl, (written _ _ refl, (written _ _ refl, tt))))), refl)
+cases_written = ((written _ _ refl, (written _ _ refl, (written _ _ refl, (written _ _ refl, (written _ _ refl, tt))))), refl)

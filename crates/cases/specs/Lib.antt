@@ -1,3 +1,3 @@
-pub mod Answers
 pub mod Cases
+pub mod Contents
 pub mod Written

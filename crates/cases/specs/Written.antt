@@ -1,12 +1,11 @@
 -- The worked cases that are read, as writings of the format. Assumes nothing.
-use Rattle.std.specs.Prelude.{◌≡◌, ℕ, List, [], ◌∷◌, map, negsuc, codes}
+use Rattle.std.specs.Prelude.{◌≡◌, ℕ, List, [], ◌∷◌, map, filter, negsuc, is_ok, codes}
+use Rattle.std.specs.List.{AllByRecursion}
 use Rattle.wire.specs.Payload.{Payload, int_value}
 use Rattle.wire.specs.Fields.{PayloadField, payload_of}
 use Rattle.wire.specs.Standing.{Standing, start_of}
 use Rattle.wire.specs.Records.{PayloadAt}
-use Rattle.cases.specs.declared.Answer.{Answer}
-use Rattle.cases.specs.declared.Answer.TheVariants.{Read, Refused}
-use Rattle.cases.specs.Cases.{Case, cases, All}
+use Rattle.cases.specs.Cases.{Case, cases}
 
 -- a writing of v stands at the start, and nothing is left behind it
 abbrev pub Written : List ℕ → Payload → Type 0
@@ -28,15 +27,10 @@ writings =
     ∷ []
 
 -- the inputs of the cases that are read
-abbrev pub if_read : Answer → List ℕ → List (List ℕ) → List (List ℕ)
-if_read (Read n c s l e d t) i k = i ∷ k
-if_read (Refused n y p) i k = k
-
 abbrev pub inputs_read : List Case → List (List ℕ)
-inputs_read [] = []
-inputs_read (c ∷ l) = if_read c.answer c.input (inputs_read l)
+inputs_read l = map (λ c. c.input) (filter (λ c. is_ok c.answer) l)
 
 -- Each input that is read is written, from its first byte to its last, with the payload of those fields; and these are
 -- all that are read.
 abbrev pub CasesWritten : Type 0
-CasesWritten = All (λ w. Written w.0 (payload_of w.1)) writings × (map (λ w. w.0) writings ≡ inputs_read cases)
+CasesWritten = AllByRecursion (λ w. Written w.0 (payload_of w.1)) writings × (map (λ w. w.0) writings ≡ inputs_read cases)

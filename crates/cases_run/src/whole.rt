@@ -32,14 +32,16 @@ pub const INPUT: &str = "
     FF
 ";
 
+const CHUNK_TRACE: [u8; 16] = [1, 2, 3, 4, 5, 6, 7, 8, 9, 10, 11, 12, 13, 14, 15, 16];
+
+const LINK_TRACE: [u8; 16] = [
+    17, 18, 19, 20, 21, 22, 23, 24, 25, 26, 27, 28, 29, 30, 31, 32,
+];
+
 // Whether the place holds those bytes.
 fn holds(input: &[u8], place: Place, expected: &[u8]) -> bool {
     let end = place.offset.saturating_add(place.length);
     input.get(place.offset..end) == Some(expected)
-}
-
-fn is_range(range: Range, first: usize, count: usize) -> bool {
-    range.first == first && range.count == count
 }
 
 fn payload_is_right(input: &[u8], payload: &TracerPayload) -> bool {
@@ -47,18 +49,17 @@ fn payload_is_right(input: &[u8], payload: &TracerPayload) -> bool {
         && holds(input, payload.runtime_id, b"r1")
         && holds(input, payload.env, b"r1")
         && holds(input, payload.app_version, b"")
-        && is_range(payload.attributes, 0, 4)
-        && is_range(payload.chunks, 0, 1)
+        && payload.attributes == Range::new(0, 4)
+        && payload.chunks == Range::new(0, 1)
 }
 
 fn chunk_is_right(input: &[u8], chunk: &TraceChunk) -> bool {
     holds(input, chunk.origin, b"lambda")
-        && is_range(chunk.attributes, 4, 1)
-        && is_range(chunk.spans, 0, 1)
-        && chunk.trace_id[0] == 1
-        && chunk.trace_id[15] == 16
-        && matches!(chunk.priority, Some(-2))
-        && matches!(chunk.sampling_mechanism, Some(4))
+        && chunk.attributes == Range::new(4, 1)
+        && chunk.spans == Range::new(0, 1)
+        && chunk.trace_id == CHUNK_TRACE
+        && chunk.priority == Some(-2)
+        && chunk.sampling_mechanism == Some(4)
         && chunk.dropped_trace
 }
 
@@ -71,21 +72,20 @@ fn span_is_right(input: &[u8], span: &Span) -> bool {
         && span.start == i64::MAX
         && span.duration == 32_767
         && span.error
-        && is_range(span.attributes, 5, 1)
+        && span.attributes == Range::new(5, 1)
         && holds(input, span.span_type, b"web")
-        && is_range(span.span_links, 0, 1)
-        && is_range(span.span_events, 0, 1)
+        && span.span_links == Range::new(0, 1)
+        && span.span_events == Range::new(0, 1)
         && holds(input, span.env, b"p")
         && holds(input, span.version, b"1")
         && holds(input, span.component, b"x")
-        && matches!(span.span_kind, SpanKind::Client)
+        && span.span_kind == SpanKind::Client
 }
 
 fn link_is_right(input: &[u8], link: &SpanLink) -> bool {
-    link.trace_id[0] == 17
-        && link.trace_id[15] == 32
+    link.trace_id == LINK_TRACE
         && link.span_id == 7
-        && is_range(link.attributes, 6, 1)
+        && link.attributes == Range::new(6, 1)
         && holds(input, link.tracestate, b"ts")
         && link.flags == 3
 }
@@ -93,24 +93,18 @@ fn link_is_right(input: &[u8], link: &SpanLink) -> bool {
 fn event_is_right(input: &[u8], event: &SpanEvent) -> bool {
     event.time_unix_nano == 65_536
         && holds(input, event.name, b"ev")
-        && is_range(event.attributes, 0, 0)
+        && event.attributes == Range::new(0, 0)
 }
 
-fn is_node(node: Node, type_number: u8, pattern: u64, inside: usize) -> bool {
-    node.type_number == type_number && node.pattern == pattern && node.inside == inside
-}
-
-fn nodes_are_right(input: &[u8], records: &Records<'_>) -> bool {
-    let double = records.nodes.get_or(0, Node::blank());
-    let list = records.nodes.get_or(1, Node::blank());
-    let bytes = records.nodes.get_or(2, Node::blank());
-    let text = records.nodes.get_or(4, Node::blank());
-    let integer = records.nodes.get_or(5, Node::blank());
-    is_node(double, 3, 0x3ff8_0000_0000_0000, 0)
-        && is_node(list, 6, 0, 2)
-        && is_node(bytes, 5, 0, 0)
-        && is_node(text, 1, 0, 0)
-        && is_node(integer, 4, 0x8000_0000_0000_0000, 0)
+fn nodes_are_right(input: &[u8], nodes: &[Node]) -> bool {
+    let [double, list, bytes, _, text, integer, _] = nodes else {
+        return false;
+    };
+    (double.type_number, double.pattern, double.inside) == (3, 0x3ff8_0000_0000_0000, 0)
+        && (list.type_number, list.pattern, list.inside) == (6, 0, 2)
+        && (bytes.type_number, bytes.pattern, bytes.inside) == (5, 0, 0)
+        && (text.type_number, text.pattern, text.inside) == (1, 0, 0)
+        && (integer.type_number, integer.pattern, integer.inside) == (4, 0x8000_0000_0000_0000, 0)
         && holds(input, list.key, b"l")
         && holds(input, bytes.place, b"\xaa\xbb")
         && holds(input, text.place, b"x")
@@ -119,6 +113,7 @@ fn nodes_are_right(input: &[u8], records: &Records<'_>) -> bool {
 #[test]
 fn every_kind(rt: HostRuntime) -> Result<(), Fail> {
     let input = bytes_of(rt.alloc(), INPUT)?;
+    // as many as the input takes, so not the memory of the program
     let mut texts = [Place::blank(); 20];
     let mut chunks = [TraceChunk::blank(); 1];
     let mut spans = [Span::blank(); 1];
@@ -135,6 +130,6 @@ fn every_kind(rt: HostRuntime) -> Result<(), Fail> {
     assert!(rt; span_is_right(&input, &records.spans.get_or(0, Span::blank())));
     assert!(rt; link_is_right(&input, &records.links.get_or(0, SpanLink::blank())));
     assert!(rt; event_is_right(&input, &records.events.get_or(0, SpanEvent::blank())));
-    assert!(rt; nodes_are_right(&input, &records));
+    assert!(rt; nodes_are_right(&input, records.nodes.as_slice()));
     Ok(())
 }

@@ -1,20 +1,26 @@
--- One turn of a loop of readers, on b, t and r, that began on b₀, t₀ and r₀. Assumes nothing.
+-- One turn of a loop of readers on the decoder d, which began on d₀. Assumes nothing.
 use Rattle.std.proofs.Common.{◌≡◌, ℕ, ◌+◌, ◌-◌, ◌<◌, List, Ok, Err, ◌∙◌}
-use Rattle.refusal.specs.Runs.{RanOn, repeat}
+use Rattle.refusal.specs.Runs.{repeat}
 use Rattle.refusal.specs.declared.Refusal.{Refusal}
 use Rattle.refusal.proofs.Turns.{repeat-more, repeat-refused}
-use Rattle.span.specs.declared.table.StringTable.{StringTable}
-use Rattle.span.specs.declared.records.Records.{Records}
-use Rattle.decode.specs.declared.buffer.Buffer.{Buffer}
-use Rattle.decode.specs.Reader.{State, Room, Read}
-use Rattle.decode.specs.State.{state_of, bytes_of, room_of, Kept}
+use Rattle.decode.specs.declared.decoder.Decoder.{Decoder}
+use Rattle.decode.specs.Reader.{Room, Read}
+use Rattle.decode.specs.State.{at_of, input_of, space_of, Kept, Did}
+use Rattle.decode.proofs.Kepts.{kept_also}
 
-module _ {C : Type 0} (step : List ℕ → Room → C → Read C) (b₀ b : Buffer) (t₀ t : StringTable) (r₀ r : Records) (kept : Kept b₀ b t₀ t r₀ r) where
-  abbrev before : C → Read C
-  before = step (bytes_of b₀) (room_of t₀ r₀)
+module _ {C : Type 0} (step : List ℕ → Room → C → Read C) where
+  abbrev before : Decoder → C → Read C
+  before d = step (input_of d) (space_of d)
 
-  pub turn_more : (c : C) {n i : ℕ} {d : C} {x : State} {out : RanOn State C} → repeat before (n - i) c (state_of b t r) ≡ out → i < n → (Ok d, x) ≡ step (bytes_of b) (room_of t r) c (state_of b t r) → repeat before (n - (i + 1)) d x ≡ out
-  turn_more c inv h ran = repeat-more before inv h (ran ∙ λ j. step (kept.bytes j) (kept.room j) c (state_of b t r))
+  -- after i of n turns: what is left to read gives what the whole gives
+  pub record Left (d₀ d : Decoder) (n i : ℕ) (c₀ c : C) : Type 0 where
+    pub kept : Kept d₀ d
+    pub rest : repeat (before d₀) (n - i) c (at_of d) ≡ repeat (before d₀) n c₀ (at_of d₀)
 
-  pub turn-refused : (c : C) {n i : ℕ} {e : Refusal} {x : State} {out : RanOn State C} → repeat before (n - i) c (state_of b t r) ≡ out → i < n → (Err e, x) ≡ step (bytes_of b) (room_of t r) c (state_of b t r) → (Err e, x) ≡ out
-  turn-refused c inv h ran = repeat-refused before inv h (ran ∙ λ j. step (kept.bytes j) (kept.room j) c (state_of b t r))
+  pub turn_more : {d₀ d d' : Decoder} {n i : ℕ} {c₀ c e : C} → Left d₀ d n i c₀ c → i < n → Did (λ input room. step input room c) d d' (Ok e) → Left d₀ d' n (i + 1) c₀ e
+  turn_more {d₀} {d} {c = c} l h e =
+      record { kept = kept_also l.kept e.kept; rest = repeat-more (before d₀) l.rest h (e.ran ∙ λ j. step (l.kept.bytes j) (l.kept.room j) c (at_of d)) }
+
+  pub turn_refused : {d₀ d d' : Decoder} {n i : ℕ} {c₀ c : C} {e : Refusal} → Left d₀ d n i c₀ c → i < n → Did (λ input room. step input room c) d d' (Err e) → Did (λ input room. repeat (step input room) n c₀) d₀ d' (Err e)
+  turn_refused {d₀} {d} {c = c} l h e =
+      record { ran = repeat-refused (before d₀) l.rest h (e.ran ∙ λ j. step (l.kept.bytes j) (l.kept.room j) c (at_of d)); kept = kept_also l.kept e.kept }

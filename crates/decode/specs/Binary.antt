@@ -1,5 +1,5 @@
 -- Binaries. Assumes nothing.
-use Rattle.std.specs.Prelude.{ℕ, ◌+◌, ◌-◌, Bool, cond, List, length, take, drop, Some, None, Ok, Err, Option, ◌==◌, nat_le}
+use Rattle.std.specs.Prelude.{ℕ, ◌+◌, ◌-◌, Bool, List, length, take, drop, Some, None, Ok, Err, Option, ◌==◌, nat_le, if◌then◌else◌}
 use Rattle.refusal.specs.Runs.{RanOn, ReadOn, refuse, pick}
 use Rattle.refusal.specs.declared.Kind.TheVariants.{InvalidFormat}
 use Rattle.refusal.specs.declared.Layer.{Layer}
@@ -16,10 +16,10 @@ enough input offset n = nat_le n (length input - offset)
 
 -- n bytes from the offset on, if so many are left; and the offset behind them
 abbrev pub slice_at : List ℕ → ℕ → ℕ → Option (List ℕ)
-slice_at input offset n = cond (enough input offset n) (Some (part input offset n)) None
+slice_at input offset n = if enough input offset n then Some (part input offset n) else None
 
 abbrev pub advanced : List ℕ → ℕ → ℕ → ℕ
-advanced input offset n = cond (enough input offset n) (offset + n) offset
+advanced input offset n = if enough input offset n then offset + n else offset
 
 abbrev pub bin_of : List ℕ → Layer → ℕ → RanOn ℕ ℕ → RanOn ℕ Place
 bin_of input l at (Ok n, offset) = pick (enough input offset n) (λ _. (Ok (record { offset = offset; length = n }), offset + n)) (λ _. refuse InvalidFormat l at at) at

@@ -1,5 +1,5 @@
 -- Plain items: which items a reader takes, and for what. Assumes nothing.
-use Rattle.std.specs.Prelude.{ℕ, Bool, cond, List, ℤ, pos, negsuc, Some, None, Ok, Option, nat_le, nat_lt}
+use Rattle.std.specs.Prelude.{ℕ, Bool, List, ℤ, pos, negsuc, Some, None, Ok, Option, nat_le, nat_lt, if◌then◌else◌}
 use Rattle.msgpack.specs.declared.Item.{Item}
 use Rattle.msgpack.specs.declared.Item.TheVariants as i
 use Rattle.msgpack.specs.Items.{item_from}
@@ -8,69 +8,24 @@ use Rattle.refusal.specs.declared.Kind.TheVariants.{InvalidFormat}
 use Rattle.refusal.specs.declared.Layer.{Layer}
 
 abbrev pub is_bool : Item → Option Bool
-is_bool i.Nil = None
 is_bool (i.Bool b) = Some b
-is_bool (i.Unsigned n) = None
-is_bool (i.Signed z) = None
-is_bool (i.Float n) = None
-is_bool (i.Double n) = None
-is_bool (i.Str n) = None
-is_bool (i.Bin n) = None
-is_bool (i.Array n) = None
-is_bool (i.Map n) = None
-is_bool (i.Ext n) = None
+is_bool _ = None
 
 abbrev pub is_double : Item → Option ℕ
-is_double i.Nil = None
-is_double (i.Bool b) = None
-is_double (i.Unsigned n) = None
-is_double (i.Signed z) = None
-is_double (i.Float n) = None
 is_double (i.Double n) = Some n
-is_double (i.Str n) = None
-is_double (i.Bin n) = None
-is_double (i.Array n) = None
-is_double (i.Map n) = None
-is_double (i.Ext n) = None
+is_double _ = None
 
 abbrev pub is_map : Item → Option ℕ
-is_map i.Nil = None
-is_map (i.Bool b) = None
-is_map (i.Unsigned n) = None
-is_map (i.Signed z) = None
-is_map (i.Float n) = None
-is_map (i.Double n) = None
-is_map (i.Str n) = None
-is_map (i.Bin n) = None
-is_map (i.Array n) = None
 is_map (i.Map n) = Some n
-is_map (i.Ext n) = None
+is_map _ = None
 
 abbrev pub is_array : Item → Option ℕ
-is_array i.Nil = None
-is_array (i.Bool b) = None
-is_array (i.Unsigned n) = None
-is_array (i.Signed z) = None
-is_array (i.Float n) = None
-is_array (i.Double n) = None
-is_array (i.Str n) = None
-is_array (i.Bin n) = None
 is_array (i.Array n) = Some n
-is_array (i.Map n) = None
-is_array (i.Ext n) = None
+is_array _ = None
 
 abbrev pub is_bin : Item → Option ℕ
-is_bin i.Nil = None
-is_bin (i.Bool b) = None
-is_bin (i.Unsigned n) = None
-is_bin (i.Signed z) = None
-is_bin (i.Float n) = None
-is_bin (i.Double n) = None
-is_bin (i.Str n) = None
 is_bin (i.Bin n) = Some n
-is_bin (i.Array n) = None
-is_bin (i.Map n) = None
-is_bin (i.Ext n) = None
+is_bin _ = None
 
 abbrev pub is_natural : ℤ → Option ℕ
 is_natural (pos n) = Some n
@@ -78,36 +33,20 @@ is_natural (negsuc n) = None
 
 -- an integer from 0 up
 abbrev pub natural : Item → Option ℕ
-natural i.Nil = None
-natural (i.Bool b) = None
 natural (i.Unsigned n) = Some n
 natural (i.Signed z) = is_natural z
-natural (i.Float n) = None
-natural (i.Double n) = None
-natural (i.Str n) = None
-natural (i.Bin n) = None
-natural (i.Array n) = None
-natural (i.Map n) = None
-natural (i.Ext n) = None
+natural _ = None
 
 -- an integer of 64 bits with a sign
 abbrev pub integer : Item → Option ℤ
-integer i.Nil = None
-integer (i.Bool b) = None
-integer (i.Unsigned n) = cond (nat_le n 0x7fffffffffffffff) (Some (pos n)) None
+integer (i.Unsigned n) = if nat_le n 0x7fffffffffffffff then Some (pos n) else None
 integer (i.Signed z) = Some z
-integer (i.Float n) = None
-integer (i.Double n) = None
-integer (i.Str n) = None
-integer (i.Bin n) = None
-integer (i.Array n) = None
-integer (i.Map n) = None
-integer (i.Ext n) = None
+integer _ = None
 
 -- the numbers of 32 bits with a sign
 abbrev pub fits32 : ℤ → Option ℤ
-fits32 (pos n) = cond (nat_lt n 0x80000000) (Some (pos n)) None
-fits32 (negsuc n) = cond (nat_lt n 0x80000000) (Some (negsuc n)) None
+fits32 (pos n) = if nat_lt n 0x80000000 then Some (pos n) else None
+fits32 (negsuc n) = if nat_lt n 0x80000000 then Some (negsuc n) else None
 
 abbrev pub narrowed : Option ℤ → Option ℤ
 narrowed None = None
@@ -118,7 +57,7 @@ signed32 x = narrowed (integer x)
 
 abbrev pub at_most : ℕ → Option ℕ → Option ℕ
 at_most max None = None
-at_most max (Some n) = cond (nat_le n max) (Some n) None
+at_most max (Some n) = if nat_le n max then Some n else None
 
 -- an integer from 0 to max
 abbrev pub up_to : ℕ → Item → Option ℕ

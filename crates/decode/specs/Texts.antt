@@ -1,5 +1,5 @@
 -- Texts. Assumes nothing.
-use Rattle.std.specs.Prelude.{ℕ, ◌+◌, Bool, cond, ◌&&◌, ◌||◌, List, [], ◌∷◌, ◌++◌, length, Some, None, Ok, Option, nat_le, nat_lt, slice_index}
+use Rattle.std.specs.Prelude.{ℕ, ◌+◌, Bool, ◌&&◌, ◌||◌, List, [], ◌∷◌, ◌++◌, length, Some, None, Ok, Option, nat_le, nat_lt, slice_index, if◌then◌else◌}
 use Rattle.msgpack.specs.declared.Item.{Item}
 use Rattle.msgpack.specs.declared.Item.TheVariants as i
 use Rattle.msgpack.specs.Items.{item_from}
@@ -33,7 +33,7 @@ is_number m = nat_le m 0x7f || between 0xcc 0xcf m
 
 module _ (input : List ℕ) where
   abbrev pub marker_at : ℕ → Option ℕ
-  marker_at at = cond (nat_lt at (length input)) (Some (slice_index input at)) None
+  marker_at at = if nat_lt at (length input) then Some (slice_index input at) else None
 
   -- n bytes of text from the offset on, of a string whose first byte is at the present place
   abbrev pub contents : ℕ → ℕ → ReadOn ℕ Place
@@ -44,18 +44,8 @@ module _ (input : List ℕ) where
       at
 
   abbrev pub length_of : Option (Item × ℕ) → ReadOn ℕ Place
-  length_of None at = refuse InvalidConversion Text at at
-  length_of (Some (i.Nil, end)) at = refuse InvalidConversion Text at at
-  length_of (Some (i.Bool b, end)) at = refuse InvalidConversion Text at at
-  length_of (Some (i.Unsigned n, end)) at = refuse InvalidConversion Text at at
-  length_of (Some (i.Signed z, end)) at = refuse InvalidConversion Text at at
-  length_of (Some (i.Float n, end)) at = refuse InvalidConversion Text at at
-  length_of (Some (i.Double n, end)) at = refuse InvalidConversion Text at at
   length_of (Some (i.Str n, end)) at = contents end n at
-  length_of (Some (i.Bin n, end)) at = refuse InvalidConversion Text at at
-  length_of (Some (i.Array n, end)) at = refuse InvalidConversion Text at at
-  length_of (Some (i.Map n, end)) at = refuse InvalidConversion Text at at
-  length_of (Some (i.Ext n, end)) at = refuse InvalidConversion Text at at
+  length_of _ at = refuse InvalidConversion Text at at
 
   abbrev pub string_by : Option ℕ → ReadOn ℕ Place
   string_by None at = refuse InvalidFormat Text at at
@@ -70,25 +60,15 @@ module _ (input : List ℕ) where
   note most at t s = pick (fits most s.texts) (λ s. (Ok t, record { at = s.at; texts = s.texts ++ t ∷ [] })) (refuse TextsFull Text at) s
 
   abbrev pub literal : ℕ → ReadOn Strings Place
-  literal most s = then (on_at (string_at s.at) s) (note most s.at)
+  literal most s = (then) (on_at (string_at s.at) s) (note most s.at)
 
   abbrev pub found : Option Place → ℕ → ReadOn Strings Place
   found None end s = refuse InvalidFormat Text s.at s
   found (Some t) end s = (Ok t, record { at = end; texts = s.texts })
 
   abbrev pub number_of : Option (Item × ℕ) → ReadOn Strings Place
-  number_of None s = refuse InvalidFormat Text s.at s
-  number_of (Some (i.Nil, end)) s = refuse InvalidFormat Text s.at s
-  number_of (Some (i.Bool b, end)) s = refuse InvalidFormat Text s.at s
   number_of (Some (i.Unsigned n, end)) s = found (numbered n s.texts) end s
-  number_of (Some (i.Signed z, end)) s = refuse InvalidFormat Text s.at s
-  number_of (Some (i.Float n, end)) s = refuse InvalidFormat Text s.at s
-  number_of (Some (i.Double n, end)) s = refuse InvalidFormat Text s.at s
-  number_of (Some (i.Str n, end)) s = refuse InvalidFormat Text s.at s
-  number_of (Some (i.Bin n, end)) s = refuse InvalidFormat Text s.at s
-  number_of (Some (i.Array n, end)) s = refuse InvalidFormat Text s.at s
-  number_of (Some (i.Map n, end)) s = refuse InvalidFormat Text s.at s
-  number_of (Some (i.Ext n, end)) s = refuse InvalidFormat Text s.at s
+  number_of _ s = refuse InvalidFormat Text s.at s
 
   abbrev pub by_number : ReadOn Strings Place
   by_number s = number_of (item_from input s.at) s

@@ -3,8 +3,7 @@
 // Changed: a binary is a place in the bytes.
 
 // Binaries: a header and as many bytes. A wrong length is refused at the header's first byte, and so are contents that are cut off.
-ghost use Rattle.std.specs.Prelude.{◌≡◌};
-ghost use Rattle.decode.specs.State.{bytes_of};
+ghost use Rattle.decode.specs.State.{Ran};
 ghost use Rattle.decode.specs.Binary.{bin_at, trace_id_at};
 
 use crate::Buffer;
@@ -12,11 +11,8 @@ use msgpack::Item;
 use refusal::{Kind, Layer, Refusal};
 use span::Place;
 
-const TRACE_ID_LEN: usize = 16;
-
 pub fn read_bin(buf: &mut Buffer<'_>, layer: Layer) -> Result<Place, Refusal>
-    ensures ran { (result, buf.new.at) ≡ bin_at (bytes_of buf.old) layer buf.old.at }
-    ensures kept { bytes_of buf.new ≡ bytes_of buf.old }
+    ensures { Ran (λ input. bin_at input layer) buf.old buf.new result }
 {
     if let Some((Item::Bin(n), offset)) = buf.item() {
         let length = n as usize;
@@ -28,18 +24,17 @@ pub fn read_bin(buf: &mut Buffer<'_>, layer: Layer) -> Result<Place, Refusal>
     Err(Refusal::new(Kind::InvalidFormat, layer, buf.at))
 }
 
+// A binary of 16 bytes.
 pub fn read_trace_id(buf: &mut Buffer<'_>, layer: Layer) -> Result<[u8; 16], Refusal>
-    ensures ran { (result, buf.new.at) ≡ trace_id_at (bytes_of buf.old) layer buf.old.at }
-    ensures kept { bytes_of buf.new ≡ bytes_of buf.old }
+    ensures { Ran (λ input. trace_id_at input layer) buf.old buf.new result }
 {
-    if let Some((Item::Bin(n), offset)) = buf.item() {
-        if n as usize == TRACE_ID_LEN && TRACE_ID_LEN <= buf.bytes.len() - offset {
-            let end = offset + TRACE_ID_LEN;
-            let mut id = [0; 16];
-            id.copy_from_slice(&buf.bytes[offset..end]);
-            buf.at = end;
-            return Ok(id);
+    let at = buf.at;
+    let place = read_bin(buf, layer)?;
+    match buf.bytes[place.offset..buf.at].try_into() {
+        Ok(id) => Ok(id),
+        Err(_) => {
+            buf.at = at;
+            Err(Refusal::new(Kind::InvalidFormat, layer, at))
         }
     }
-    Err(Refusal::new(Kind::InvalidFormat, layer, buf.at))
 }

@@ -1,4 +1,4 @@
--- Maps of fields, read into a draft: a record and up to two flags. Assumes nothing.
+-- Maps of fields, read into a draft: a record, and whether up to two fields that must be there were read. Assumes nothing.
 use Rattle.std.proofs.Common.{◌≡◌, ℕ, Bool, true, false, ◌&&◌, ◌||◌, eqb, List, [], ◌∷◌, ◌++◌, sym, refl, ap, ◌∙◌, subst, eqb-true}
 use mathlib.Core.Option.{Option}
 use borrow.Author.Tests.{clash}
@@ -20,7 +20,7 @@ use Rattle.meaning.proofs.Heads.{CountAt, reads-item, takes-map, takes-natural}
 use Rattle.meaning.proofs.Skips.{reads_over}
 use Rattle.meaning.proofs.Fills.{Moving, Filled, filled_none, filled-also}
 
--- the record in a draft, its flags, and the fields that set them
+-- the record that a draft makes, whether the two were read, and the fields that say so
 pub record Draft (D T F : Type 0) : Type 0 where
   pub get : D → T
   pub one : D → Bool
@@ -79,7 +79,7 @@ module _ {D T V F : Type 0} (dr : Draft D T F) (show : Pools → T → Option V)
     };
   }
 
--- the record, if both flags are set
+-- the record, if both were read
 module _ {D T F : Type 0} (dr : Draft D T F) (layer : Layer) where
   abbrev pub finish_of : ℕ → D → Read T
   finish_of at d = pick (dr.one d) (pick (dr.two d) (give (dr.get d)) (refuse InvalidFormat layer at)) (refuse InvalidFormat layer at)

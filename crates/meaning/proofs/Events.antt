@@ -2,6 +2,7 @@
 use Rattle.std.proofs.Common.{◌≡◌, ℕ, true, false, ◌||◌, eqb, List, [], ◌∷◌, refl, ◌∙◌, arith, eqb-true}
 use mathlib.Core.Option.{some}
 use borrow.Author.Tests.{eqb_apart}
+use Rattle.refusal.specs.Runs.{give}
 use Rattle.decode.specs.Reader.{State, Room}
 use Rattle.skipped.specs.Over.{over}
 use Rattle.wire.specs.Payload as wire
@@ -80,7 +81,7 @@ module _ (input : List ℕ) (room : Room) where
   field_fits (EventFieldAt.other h u g) i = (keys input room Event).fits h (fits-before ((skipped-grows 64).grows g) i)
 
   one-event : (u : Unit {0}) → Reads input room EventAt (Event.event input room u) (λ v w s s'. Recorded (of_events input) s s' (v ∷ []))
-  one-event u = reads-record input room Event (of_events input) counts-events event_draft with_event_field blank_event no_event (event-blank input) shape (λ c. record { sound = field-sound c; complete = field-complete c; fits = field_fits })
+  one-event u = reads-record input room Event (of_events input) counts-events event_draft (λ at d. give d) (λ at d s. refl) with_event_field blank_event no_event (event-blank input) shape (λ c. record { sound = field-sound c; complete = field-complete c; fits = field_fits })
 
   pub reads-events : Reads input room (ArrayAt EventAt) (events input room) (Listed input room Span (of_events input))
   unfolding events

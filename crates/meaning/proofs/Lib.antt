@@ -8,6 +8,7 @@ pub mod Takes
 pub mod Fills
 pub mod Counted
 pub mod Items
+pub mod Gots
 pub mod Drafts
 pub mod Rows
 pub mod Links

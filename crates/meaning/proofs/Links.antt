@@ -5,6 +5,7 @@ use borrow.Author.Tests.{eqb_apart}
 use Rattle.refusal.specs.declared.Layer.TheVariants.{Link, Span}
 use Rattle.span.specs.Blank.{blank_link}
 use Rattle.span.specs.declared.types.SpanLink.{SpanLink}
+use Rattle.refusal.specs.Runs.{give}
 use Rattle.decode.specs.Reader.{State, Room}
 use Rattle.skipped.specs.Over.{over}
 use Rattle.spans.specs.Link.{with_trace_id, with_span_id, with_attributes, with_tracestate, with_flags, link_at, link_field, links}
@@ -89,7 +90,7 @@ module _ (input : List ℕ) (room : Room) where
   field_fits (LinkFieldAt.other h u g) i = (keys input room Link).fits h (fits-before ((skipped-grows 64).grows g) i)
 
   one_link : (u : Unit {0}) → Reads input room LinkAt (Link.link input room u) (λ v w s s'. Recorded (of_links input) s s' (v ∷ []))
-  one_link u = reads-record input room Link (of_links input) counts-links link_draft with_link_field blank_link no_link (link-blank input) shape (λ c. record { sound = field-sound c; complete = field-complete c; fits = field_fits })
+  one_link u = reads-record input room Link (of_links input) counts-links link_draft (λ at d. give d) (λ at d s. refl) with_link_field blank_link no_link (link-blank input) shape (λ c. record { sound = field-sound c; complete = field-complete c; fits = field_fits })
 
   pub reads-links : Reads input room (ArrayAt LinkAt) (links input room) (Listed input room Span (of_links input))
   unfolding links

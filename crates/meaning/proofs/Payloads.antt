@@ -1,7 +1,11 @@
 -- The readers of payloads. Assumes nothing.
-use Rattle.std.proofs.Common.{◌≡◌, ℕ, ◌≤◌, Bool, true, false, ◌||◌, eqb, leb, List, [], ◌∷◌, sym, refl, ap, ◌∙◌, arith, eq-eqb, eqb-true, leb-true}
+use Rattle.std.proofs.Common.{◌≡◌, ℕ, ◌≤◌, Bool, true, false, ◌||◌, eqb, leb, List, [], ◌∷◌, None, Some, Option, sym, refl, ap, ◌∙◌, subst, arith, eq-eqb, eqb-true, leb-true}
 use mathlib.Core.Option.{some}
 use borrow.Author.Tests.{eqb_apart, clash}
+use Rattle.refusal.specs.Runs.{give, refuse, pick}
+use Rattle.refusal.specs.declared.Kind.TheVariants.{InvalidFormat}
+use Rattle.span.specs.Blank.{no_range}
+use Rattle.span.specs.declared.types.Range.{Range}
 use Rattle.decode.specs.Reader.{State, Room}
 use Rattle.skipped.specs.Over.{over}
 use Rattle.wire.specs.Payload as wire
@@ -25,12 +29,24 @@ use Rattle.meaning.proofs.Texts.{reads-text}
 use Rattle.meaning.proofs.Stays.{Added}
 use Rattle.meaning.proofs.Shows.{grew-added}
 use Rattle.meaning.proofs.Fills.{Growing, moving-growing, payload-field, payload-blank, payload-container_id, payload-language_name, payload-language_version, payload-tracer_version, payload-runtime_id, payload-env, payload-hostname, payload-app_version, payload-attributes, payload-chunks}
-use Rattle.meaning.proofs.Drafts.{Draft, Drafted, Drafts, drafting, or-none, or_some, both_true, by_eqb, finish-post, finish-does, map-post, map-does, keys, one_field, one-other}
+use Rattle.meaning.proofs.Gots.{or_else, has}
+use Rattle.meaning.proofs.Drafts.{Draft, Drafted, Drafts, finish_of, drafting, or-none, or_some, both_true, by_eqb, finish-post, finish-does, map-post, map-does, keys, one_field, one-other}
 use Rattle.meaning.proofs.Chunks.{reads_chunks}
+
+-- the payload with what was read of its chunks, which must be there
+abbrev got : PayloadDraft → TracerPayload
+got d = with_chunks (or_else no_range d.chunks) d.payload
 
 -- a payload must have its chunks
 abbrev payload_draft : Draft PayloadDraft TracerPayload PayloadField
-payload_draft = record { get = λ d. d.payload; one = λ d. d.saw_chunks; two = λ d. true; is_one = is_chunks; is-two = λ f. false }
+payload_draft = record { get = got; one = λ d. has d.chunks; two = λ d. true; is_one = is_chunks; is-two = λ f. false }
+
+ends : (at : ℕ) (d : PayloadDraft) (s : State) → spec.finish at d s ≡ finish_of payload_draft layer.Payload at d s
+ends at d s = go d.chunks
+  where
+    go : (r : Option Range) → spec.finished at d.payload r s ≡ pick (has r) (give (with_chunks (or_else no_range r) d.payload)) (refuse InvalidFormat layer.Payload at) s
+    go (Some r) = refl
+    go None = refl
 
 apart-text : (k j : ℕ) → is_text j ≡ true → is_text k ≡ false → ¬ (k ≡ j)
 apart-text k j is not e = clash (sym not ∙ ap is_text e ∙ is)
@@ -51,8 +67,8 @@ module _ (input : List ℕ) (room : Room) where
   Puts f c d s s' = Drafted payload_draft (shown_payload input) with_payload_field Growing (f ∷ []) c d s s'
 
   -- a field, where no record is taken
-  plain : (f : PayloadField) (c d : PayloadDraft) (s q : State) → q.pools ≡ s.pools → payload_draft.one d ≡ sees payload_draft.is_one (f ∷ []) || payload_draft.one c → payload_draft.two d ≡ sees payload_draft.is-two (f ∷ []) || payload_draft.two c → ((v : wire.Payload) → shown_payload input q.pools c.payload ≡ some v → shown_payload input q.pools d.payload ≡ some (with_payload_field v f)) → Puts f c d s q
-  plain f c d s q e a b put = record { fills = payload-field input f c.payload d.payload s q (moving-growing.none s q e) put; ones = a; twos = b }
+  plain : (f : PayloadField) (c d : PayloadDraft) (s q : State) → q.pools ≡ s.pools → payload_draft.one d ≡ sees payload_draft.is_one (f ∷ []) || payload_draft.one c → payload_draft.two d ≡ sees payload_draft.is-two (f ∷ []) || payload_draft.two c → ((v : wire.Payload) → shown_payload input q.pools (got c) ≡ some v → shown_payload input q.pools (got d) ≡ some (with_payload_field v f)) → Puts f c d s q
+  plain f c d s q e a b put = record { fills = payload-field input f (got c) (got d) s q (moving-growing.none s q e) put; ones = a; twos = b }
 
   text-field : (k : ℕ) {x : wire.Text} {p m q : Standing} → is_text k ≡ true → KeyAt k p m → TextAt x m q → (f : PayloadField) × PayloadFieldAt f p q
   text-field k {x} is h t =
@@ -79,30 +95,30 @@ module _ (input : List ℕ) (room : Room) where
 
   field-complete : (c : PayloadDraft) {f : PayloadField} {p q : Standing} → PayloadFieldAt f p q → Fits (rooms_of room) q → (s : State) → standing input s ≡ p → Does (λ d s'. (standing input s' ≡ q) × Puts f c d s s') (payload_field input room c s)
   field-complete c (PayloadFieldAt.container_id {x} h g) i s e =
-      one_field input room layer.Payload (λ k. payload_at input room k c) (reads-text input room) (λ x. put (with_container x c.payload) c) refl h g i s e (λ y m q kept z. plain (PayloadField.container_id x) c (put (with_container y c.payload) c) s q (z.1 ∙ kept) refl refl (λ v w. payload-container_id input q.pools c.payload v w y x z.0))
+      one_field input room layer.Payload (λ k. payload_at input room k c) (reads-text input room) (λ x. put (with_container x c.payload) c) refl h g i s e (λ y m q kept z. plain (PayloadField.container_id x) c (put (with_container y c.payload) c) s q (z.1 ∙ kept) refl refl (λ v w. payload-container_id input q.pools (got c) v w y x z.0))
   field-complete c (PayloadFieldAt.language_name {x} h g) i s e =
-      one_field input room layer.Payload (λ k. payload_at input room k c) (reads-text input room) (λ x. put (with_language x c.payload) c) refl h g i s e (λ y m q kept z. plain (PayloadField.language_name x) c (put (with_language y c.payload) c) s q (z.1 ∙ kept) refl refl (λ v w. payload-language_name input q.pools c.payload v w y x z.0))
+      one_field input room layer.Payload (λ k. payload_at input room k c) (reads-text input room) (λ x. put (with_language x c.payload) c) refl h g i s e (λ y m q kept z. plain (PayloadField.language_name x) c (put (with_language y c.payload) c) s q (z.1 ∙ kept) refl refl (λ v w. payload-language_name input q.pools (got c) v w y x z.0))
   field-complete c (PayloadFieldAt.language_version {x} h g) i s e =
-      one_field input room layer.Payload (λ k. payload_at input room k c) (reads-text input room) (λ x. put (with_language_version x c.payload) c) refl h g i s e (λ y m q kept z. plain (PayloadField.language_version x) c (put (with_language_version y c.payload) c) s q (z.1 ∙ kept) refl refl (λ v w. payload-language_version input q.pools c.payload v w y x z.0))
+      one_field input room layer.Payload (λ k. payload_at input room k c) (reads-text input room) (λ x. put (with_language_version x c.payload) c) refl h g i s e (λ y m q kept z. plain (PayloadField.language_version x) c (put (with_language_version y c.payload) c) s q (z.1 ∙ kept) refl refl (λ v w. payload-language_version input q.pools (got c) v w y x z.0))
   field-complete c (PayloadFieldAt.tracer_version {x} h g) i s e =
-      one_field input room layer.Payload (λ k. payload_at input room k c) (reads-text input room) (λ x. put (with_tracer x c.payload) c) refl h g i s e (λ y m q kept z. plain (PayloadField.tracer_version x) c (put (with_tracer y c.payload) c) s q (z.1 ∙ kept) refl refl (λ v w. payload-tracer_version input q.pools c.payload v w y x z.0))
+      one_field input room layer.Payload (λ k. payload_at input room k c) (reads-text input room) (λ x. put (with_tracer x c.payload) c) refl h g i s e (λ y m q kept z. plain (PayloadField.tracer_version x) c (put (with_tracer y c.payload) c) s q (z.1 ∙ kept) refl refl (λ v w. payload-tracer_version input q.pools (got c) v w y x z.0))
   field-complete c (PayloadFieldAt.runtime_id {x} h g) i s e =
-      one_field input room layer.Payload (λ k. payload_at input room k c) (reads-text input room) (λ x. put (with_runtime x c.payload) c) refl h g i s e (λ y m q kept z. plain (PayloadField.runtime_id x) c (put (with_runtime y c.payload) c) s q (z.1 ∙ kept) refl refl (λ v w. payload-runtime_id input q.pools c.payload v w y x z.0))
+      one_field input room layer.Payload (λ k. payload_at input room k c) (reads-text input room) (λ x. put (with_runtime x c.payload) c) refl h g i s e (λ y m q kept z. plain (PayloadField.runtime_id x) c (put (with_runtime y c.payload) c) s q (z.1 ∙ kept) refl refl (λ v w. payload-runtime_id input q.pools (got c) v w y x z.0))
   field-complete c (PayloadFieldAt.env {x} h g) i s e =
-      one_field input room layer.Payload (λ k. payload_at input room k c) (reads-text input room) (λ x. put (with_env x c.payload) c) refl h g i s e (λ y m q kept z. plain (PayloadField.env x) c (put (with_env y c.payload) c) s q (z.1 ∙ kept) refl refl (λ v w. payload-env input q.pools c.payload v w y x z.0))
+      one_field input room layer.Payload (λ k. payload_at input room k c) (reads-text input room) (λ x. put (with_env x c.payload) c) refl h g i s e (λ y m q kept z. plain (PayloadField.env x) c (put (with_env y c.payload) c) s q (z.1 ∙ kept) refl refl (λ v w. payload-env input q.pools (got c) v w y x z.0))
   field-complete c (PayloadFieldAt.hostname {x} h g) i s e =
-      one_field input room layer.Payload (λ k. payload_at input room k c) (reads-text input room) (λ x. put (with_hostname x c.payload) c) refl h g i s e (λ y m q kept z. plain (PayloadField.hostname x) c (put (with_hostname y c.payload) c) s q (z.1 ∙ kept) refl refl (λ v w. payload-hostname input q.pools c.payload v w y x z.0))
+      one_field input room layer.Payload (λ k. payload_at input room k c) (reads-text input room) (λ x. put (with_hostname x c.payload) c) refl h g i s e (λ y m q kept z. plain (PayloadField.hostname x) c (put (with_hostname y c.payload) c) s q (z.1 ∙ kept) refl refl (λ v w. payload-hostname input q.pools (got c) v w y x z.0))
   field-complete c (PayloadFieldAt.app_version {x} h g) i s e =
-      one_field input room layer.Payload (λ k. payload_at input room k c) (reads-text input room) (λ x. put (with_app x c.payload) c) refl h g i s e (λ y m q kept z. plain (PayloadField.app_version x) c (put (with_app y c.payload) c) s q (z.1 ∙ kept) refl refl (λ v w. payload-app_version input q.pools c.payload v w y x z.0))
+      one_field input room layer.Payload (λ k. payload_at input room k c) (reads-text input room) (λ x. put (with_app x c.payload) c) refl h g i s e (λ y m q kept z. plain (PayloadField.app_version x) c (put (with_app y c.payload) c) s q (z.1 ∙ kept) refl refl (λ v w. payload-app_version input q.pools (got c) v w y x z.0))
   field-complete c (PayloadFieldAt.attributes {x} h g) i s e =
       one_field input room layer.Payload (λ k. payload_at input room k c) (reads-attributes input room) (λ x. put (with_attributes x c.payload) c) refl h g i s e (λ y m q kept z. record {
-        fills = payload-field input (PayloadField.attributes x) c.payload (with_attributes y c.payload) s q (moving-growing.both s m q (moving-growing.none s m kept) (grew-added input m q x z.grew)) (λ v w. payload-attributes input q.pools c.payload v w y x z.shows);
+        fills = payload-field input (PayloadField.attributes x) (got c) (with_attributes y (got c)) s q (moving-growing.both s m q (moving-growing.none s m kept) (grew-added input m q x z.grew)) (λ v w. payload-attributes input q.pools (got c) v w y x z.shows);
         ones = refl;
         twos = refl;
       })
   field-complete c (PayloadFieldAt.chunks {x} h g) i s e =
-      one_field input room layer.Payload (λ k. payload_at input room k c) (reads_chunks input room) (λ x. put_chunks (with_chunks x c.payload) c) refl h g i s e (λ y m q kept z. record {
-        fills = payload-field input (PayloadField.chunks x) c.payload (with_chunks y c.payload) s q (moving-growing.both s m q (moving-growing.none s m kept) z.recorded.added) (λ v w. payload-chunks input q.pools c.payload v w y x z.shows);
+      one_field input room layer.Payload (λ k. payload_at input room k c) (reads_chunks input room) (λ x. put_chunks x c) refl h g i s e (λ y m q kept z. record {
+        fills = payload-field input (PayloadField.chunks x) (got c) (with_chunks y (got c)) s q (moving-growing.both s m q (moving-growing.none s m kept) z.recorded.added) (λ v w. payload-chunks input q.pools (got c) v w y x z.shows);
         ones = refl;
         twos = refl;
       })
@@ -140,13 +156,13 @@ module _ (input : List ℕ) (room : Room) where
   unfolding spec.payload
   payload-sound s i =
       map-post input room layer.Payload Ms adding fields spec.no_payload (spec.finish s.at) s i (λ d q l t f ms.
-      finish-post payload_draft layer.Payload s.at d q (λ a b. (filled with_payload_field wire.no_payload l, payload t (or-none _ (sym ms.ones ∙ a)), f)))
+      subst (Post (λ x s'. Stood input room PayloadAt s s')) (sym (ends s.at d q)) (finish-post payload_draft layer.Payload s.at d q (λ a b. (filled with_payload_field wire.no_payload l, payload t (or-none _ (sym ms.ones ∙ a)), f))))
 
   payload-complete : {v : wire.Payload} {p q : Standing} → PayloadAt v p q → Fits (rooms_of room) q → (s : State) → standing input s ≡ p → Does (λ x s'. (standing input s' ≡ q) × Shows v x s s') (spec.payload input room s)
   unfolding spec.payload
-  payload-complete (payload {l} t has) i s e =
+  payload-complete {v} {q = q} (payload {l} t seen) i s e =
       map-does input room layer.Payload Ms adding fields spec.no_payload (spec.finish s.at) t i s e (λ d m z ms.
-      finish-does payload_draft layer.Payload s.at d m (ms.ones ∙ or_some has) refl (z, record { says = ms.fills.says wire.no_payload (payload-blank input s.pools); added = ms.fills.inside }))
+      subst (Does (λ x s'. (standing input s' ≡ q) × Shows v x s s')) (sym (ends s.at d m)) (finish-does payload_draft layer.Payload s.at d m (ms.ones ∙ or_some seen) refl (z, record { says = ms.fills.says wire.no_payload (payload-blank input s.pools); added = ms.fills.inside })))
 
   pub reads-payload : Reads input room PayloadAt (spec.payload input room) Shows
   reads-payload = record { sound = payload-sound; complete = payload-complete; fits = λ h. fits-before (payload-grows.grows h) }

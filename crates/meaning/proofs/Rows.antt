@@ -2,13 +2,13 @@
 use Rattle.std.proofs.Common.{◌≡◌, ℕ, suc, true, ◌||◌, List, [], ◌∷◌, length, sym, refl, ap, ◌∙◌, subst}
 use mathlib.Core.Option.{Option, some}
 use Rattle.msgpack.specs.declared.Item.TheVariants as item
-use Rattle.refusal.specs.Runs.{◌>>=◌, give, repeat}
+use Rattle.refusal.specs.Runs.{repeat}
 use Rattle.refusal.specs.declared.Layer.{Layer}
-use Rattle.span.specs.Blank.{range_of}
 use Rattle.span.specs.State.{Pools}
 use Rattle.span.specs.declared.types.Range.{Range}
-use Rattle.decode.specs.Items.{item_of, is_array, is_map}
-use Rattle.decode.specs.Reader.{State, Room, Read, Part, placed, reserve_in, write_in}
+use Rattle.decode.specs.Items.{item_of, is_array}
+use Rattle.decode.specs.Reader.{State, Room, Read, Part, placed, write_in}
+use Rattle.spans.specs.Records.{record_in, records_in}
 use Rattle.wire.specs.Standing.{Standing, Fits}
 use Rattle.wire.specs.Form.{Form, Times, done, more, ArrayAt, array, MapAt}
 use Rattle.wire.specs.Fields.{filled, sees}
@@ -37,31 +37,22 @@ pub record Shape {D T V F : Type 0} (dr : Draft D T F) (with : V → F → V) (b
   pub grows : Grows X
 
 module _ (input : List ℕ) (room : Room) (layer : Layer) where
-  -- a record is taken, its fields are read, and it is written
-  module _ {D T F : Type 0} (part : Part T) (dr : Draft D T F) (field : D → Read D) (blank : D) where
-    abbrev pub record_of : Read (Unit {0})
-    record_of s =
-        (reserve_in part layer room >>= λ index.
-        placed (item_of is_map input layer) >>= λ n.
-        repeat field n blank >>= λ d.
-        finish_of dr layer s.at d >>= λ x.
-        write_in part index x) s
-
-  module _ {D T V F : Type 0} {part : Part T} {show : Pools → T → Option V} {above : Pools → Pools} (laws : Showing part show above) {count : Standing → Standing} (counts : Counts part count) (dr : Draft D T F) (with : V → F → V) (blank : D) (v₀ : V) (says : (p : Pools) → show p (dr.get blank) ≡ some v₀) {Y : Form F} {X : Form V} (sh : Shape dr with blank v₀ count Y X) {field : D → Read D} (hr : (d : D) → Reads input room Y (field d) (λ f. Drafts dr show with (Inside laws) d (f ∷ []))) where
+  module _ {D T V F : Type 0} {part : Part T} {show : Pools → T → Option V} {above : Pools → Pools} (laws : Showing part show above) {count : Standing → Standing} (counts : Counts part count) (dr : Draft D T F) (finish : ℕ → D → Read T) (ends : (at : ℕ) (d : D) (s : State) → finish at d s ≡ finish_of dr layer at d s) (with : V → F → V) (blank : D) (v₀ : V) (says : (p : Pools) → show p (dr.get blank) ≡ some v₀) {Y : Form F} {X : Form V} (sh : Shape dr with blank v₀ count Y X) {field : D → Read D} (hr : (d : D) → Reads input room Y (field d) (λ f. Drafts dr show with (Inside laws) d (f ∷ []))) where
     adding : Adding (Drafts dr show with (Inside laws))
     adding = drafting dr show with (Inside laws) (moving-inside laws)
 
-    record-sound : (s : State) → Fits (rooms_of room) (standing input s) → Post (λ u s'. Stood input room X s s') (record_of part dr field blank s)
+    record-sound : (s : State) → Fits (rooms_of room) (standing input s) → Post (λ u s'. Stood input room X s s') (record_in input room layer part field blank finish tt s)
     record-sound s i =
         then-post (reserve-sound input room counts layer s i) (λ j m h.
         map-post input room layer (Drafts dr show with (Inside laws)) adding hr blank _ m h.1 (λ d q l t f ms.
-        then-post (finish-post dr layer {Q = λ x o. (x ≡ dr.get d) × (o ≡ q) × (dr.one d ≡ true) × (dr.two d ≡ true)} s.at d q (λ a b. (refl, refl, a, b))) (λ x o z.
+        let Q : T → State → Type 0 = λ x o. (x ≡ dr.get d) × (o ≡ q) × (dr.one d ≡ true) × (dr.two d ≡ true) in
+        then-post (subst (Post Q) (sym (ends s.at d q)) (finish-post dr layer {Q = Q} s.at d q (λ a b. (refl, refl, a, b)))) (λ x o z.
         let same : standing input (write_in part j x o).1 ≡ standing input q = counts.as_many input o j x ∙ ap (standing input) z.1 in
         let here : MapAt Y l (count (standing input s)) (standing input q) = subst (λ p. MapAt Y l p (standing input q)) h.0 t in
         let stands = sh.make l (sym ms.ones ∙ z.2) (sym ms.twos ∙ z.3) here in
         hit (filled with v₀ l, subst (X (filled with v₀ l) (standing input s)) (sym same) stands, subst (Fits (rooms_of room)) (sym same) f))))
 
-    record-complete : {v : V} {p q : Standing} → X v p q → Fits (rooms_of room) q → (s : State) → standing input s ≡ p → Does (λ u s'. (standing input s' ≡ q) × Recorded laws s s' (v ∷ [])) (record_of part dr field blank s)
+    record-complete : {v : V} {p q : Standing} → X v p q → Fits (rooms_of room) q → (s : State) → standing input s ≡ p → Does (λ u s'. (standing input s' ≡ q) × Recorded laws s s' (v ∷ [])) (record_in input room layer part field blank finish tt s)
     record-complete {v} {p} {q} h i s e =
         let w = sh.open_up h in
         let l = w.fields in
@@ -69,22 +60,16 @@ module _ (input : List ℕ) (room : Room) (layer : Layer) where
         let f = map-fits input room layer (Drafts dr show with (Inside laws)) adding hr blank t i in
         then-does (reserve-complete input room counts layer f s e) (λ j m d.
         map-does input room layer (Drafts dr show with (Inside laws)) adding hr blank _ t i m d.0 (λ x o z ms.
-        then-does (finish-does dr layer {Q = λ y c. (y ≡ dr.get x) × (c ≡ o)} s.at x o (ms.ones ∙ w.has_one) (ms.twos ∙ w.has-two) (refl, refl)) (λ y c k.
+        let Q : T → State → Type 0 = λ y c. (y ≡ dr.get x) × (c ≡ o) in
+        then-does (subst (Does Q) (sym (ends s.at x o)) (finish-does dr layer {Q = Q} s.at x o (ms.ones ∙ w.has_one) (ms.twos ∙ w.has-two) (refl, refl))) (λ y c k.
         let row : Recorded laws s (write_in part j (dr.get x) o).1 (filled with v₀ l ∷ []) = recorded-one laws s m o j (dr.get x) (filled with v₀ l) d.1 d.2 ms.fills.inside (ms.fills.says v₀ (says m.pools)) in
         let row' : Recorded laws s (write_in part j y c).1 (v ∷ []) = rw (k.0, k.1, ← w.all) row in
         does (counts.as_many input c j y ∙ ap (standing input) k.1 ∙ z, row'))))
 
-    pub reads-record : Reads input room X (record_of part dr field blank) (λ v u s s'. Recorded laws s s' (v ∷ []))
+    pub reads-record : Reads input room X (record_in input room layer part field blank finish tt) (λ v u s s'. Recorded laws s s' (v ∷ []))
     reads-record = record { sound = record-sound; complete = record-complete; fits = λ h. fits-before (sh.grows.grows h) }
 
   -- as many records as the header says, as a range
-  module _ {T : Type 0} (part : Part T) (one : Unit {0} → Read (Unit {0})) where
-    abbrev pub range_reader : Read Range
-    range_reader s =
-        (placed (item_of is_array input layer) >>= λ n.
-        repeat one n tt >>= λ u.
-        give (range_of (length (part.of s.pools)) n)) s
-
   times-length : {A : Type 0} {X : Form A} {n : ℕ} {l : List A} {p q : Standing} → Times X n l p q → length l ≡ n
   times-length done = refl
   times-length (more h t) = ap suc (times-length t)
@@ -102,7 +87,7 @@ module _ (input : List ℕ) (room : Room) (layer : Layer) where
       counted : Reads input room (CountAt item.Array) (placed (item_of is_array input layer)) Same
       counted = reads-item input takes_array layer room
 
-      range-complete : {vs : List V} {p q : Standing} → ArrayAt X vs p q → Fits (rooms_of room) q → (s : State) → standing input s ≡ p → Does (λ r s'. (standing input s' ≡ q) × Listed vs r s s') (range_reader part one s)
+      range-complete : {vs : List V} {p q : Standing} → ArrayAt X vs p q → Fits (rooms_of room) q → (s : State) → standing input s ≡ p → Does (λ r s'. (standing input s' ≡ q) × Listed vs r s s') (records_in input layer part one s)
       range-complete {vs} (array {n} h t) i s e =
           then_same counted _ h ((many n).fits t i) s e (λ m d kept.
           then-does ((many n).complete t i m d) (λ u q z.
@@ -112,7 +97,7 @@ module _ (input : List ℕ) (room : Room) (layer : Layer) where
       range-fits : {vs : List V} {p q : Standing} → ArrayAt X vs p q → Fits (rooms_of room) q → Fits (rooms_of room) p
       range-fits (array {n} h t) i = counted.fits h ((many n).fits t i)
 
-      pub reads-range : Reads input room (ArrayAt X) (range_reader part one) Listed
+      pub reads-range : Reads input room (ArrayAt X) (records_in input layer part one) Listed
       reads-range = record {
         sound = λ s i. then-post (finds counted s i) (λ n m h. then-post ((many n).sound m h.1) (λ u q z. hit (z.0, array h.0 z.1, z.2)));
         complete = range-complete;

@@ -7,7 +7,7 @@ use Rattle.msgpack.specs.declared.Item.TheVariants as i
 use Rattle.msgpack.specs.Items.{item_from}
 use Rattle.utf8.specs.Machine.{well_formed}
 use Rattle.utf8.specs.Table.{Formed}
-use Rattle.utf8.proofs.Tables.{to-fold, from-fold}
+use Rattle.utf8.proofs.Tables.{to_fold, from_fold}
 use Rattle.refusal.specs.Runs.{ReadOn, repeat}
 use Rattle.span.specs.Held.{fits}
 use Rattle.span.specs.State.{Pools}
@@ -69,11 +69,11 @@ not-formed : (l : List ℕ) → ¬ Formed l → well_formed l ≡ false
 not-formed l h = go (well_formed l) refl
   where
     go : (b : Bool) → well_formed l ≡ b → b ≡ false
-    go true e = absurd (h (from-fold l e))
+    go true e = absurd (h (from_fold l e))
     go false e = refl
 
 formed-not : (l : List ℕ) → well_formed l ≡ false → ¬ Formed l
-formed-not l e f = clash (sym e ∙ to-fold f)
+formed-not l e f = clash (sym e ∙ to_fold f)
 
 module _ (input : List ℕ) (room : Room) (P : Pools) (start : ℕ) where
   abbrev Fit : Strings → Type 0
@@ -103,7 +103,7 @@ module _ (input : List ℕ) (room : Room) (P : Pools) (start : ℕ) where
         let c : Place = record { offset = s.at; length = n } in
         pick_post _ _ t (well_formed (part input s.at n)) (λ e.
         pick_post _ _ t (fits room.texts s.texts) (λ k.
-        hit (subst (SkippedOf X (i.Str n) (standing input (among P s))) (sym (noted-place input (among P t) c)) (SkippedOf.text h (from-fold (part input s.at n) e)), noted-fits input (among P t) c f k)) (λ k. no)) (λ e.
+        hit (subst (SkippedOf X (i.Str n) (standing input (among P s))) (sym (noted-place input (among P t) c)) (SkippedOf.text h (from_fold (part input s.at n) e)), noted-fits input (among P t) c f k)) (λ k. no)) (λ e.
         hit (SkippedOf.no_text h (formed-not (part input s.at n) e), f))
 
     walk_of : (at : ℕ) (x : Item) (s : Strings) → Fit s → Post (Behind X x s) (skip_of input room.texts true start below at x s)
@@ -171,7 +171,7 @@ module _ (input : List ℕ) (room : Room) (P : Pools) (start : ℕ) where
       let t = moved (s.at + n) s in
       let c : Place = record { offset = s.at; length = n } in
       let here = at_true w.stops in
-      pick_yes _ _ t (ap well_formed w.says ∙ to-fold f) (
+      pick_yes _ _ t (ap well_formed w.says ∙ to_fold f) (
       pick_yes _ _ t (room-left input l q (among P t) i here) (
       does (at-any true (noted-place input (among P t) c ∙ ap₂ noting w.says here))))
   note-done false at n s l q w f i = does (record { left = w.stops.left; texts = λ e. absurd (clash e); counts = w.stops.counts })

@@ -1,7 +1,9 @@
 -- The readers of spans. Assumes nothing.
-use Rattle.std.proofs.Common.{◌≡◌, ℕ, true, false, ◌||◌, eqb, List, [], ◌∷◌, pos, sym, refl, ap, ◌∙◌, arith, eqb-true}
+use Rattle.std.proofs.Common.{◌≡◌, ℕ, true, false, ◌||◌, eqb, List, [], ◌∷◌, ℤ, pos, None, Some, Option, sym, refl, ap, ◌∙◌, arith, eqb-true}
 use mathlib.Core.Option.{some}
 use borrow.Author.Tests.{eqb_apart, clash}
+use Rattle.refusal.specs.Runs.{give, refuse, pick}
+use Rattle.refusal.specs.declared.Kind.TheVariants.{InvalidFormat}
 use Rattle.decode.specs.Reader.{State, Room}
 use Rattle.skipped.specs.Over.{over}
 use Rattle.wire.specs.Payload as wire
@@ -27,14 +29,27 @@ use Rattle.meaning.proofs.Texts.{reads-text}
 use Rattle.meaning.proofs.Counted.{counts-spans}
 use Rattle.meaning.proofs.Takes.{Inside, Recorded, of_spans, nodes-in-span, links-in-span, events-in-span}
 use Rattle.meaning.proofs.Fills.{moving-inside, span-field, span-blank, span-service, span-name, span-resource, span_type, span-span_id, span-parent_id, span-start, span-duration, span-error, span-kind, span-env, span-version, span-component, span-attributes, span-links, span-events}
-use Rattle.meaning.proofs.Drafts.{Draft, Drafted, or-none, or_some, by_eqb, keys, one_field, one_same, one-other}
+use Rattle.meaning.proofs.Gots.{or_else, has}
+use Rattle.meaning.proofs.Drafts.{Draft, Drafted, finish_of, or-none, or_some, by_eqb, keys, one_field, one_same, one-other}
 use Rattle.meaning.proofs.Rows.{Opened, Shape, reads-record}
 use Rattle.meaning.proofs.Links.{reads-links}
 use Rattle.meaning.proofs.Events.{reads-events}
 
+-- the span with what was read of the two that must be there
+abbrev got : SpanDraft → Span
+got d = with_start (or_else (pos 0) d.start) (with_span_id (or_else 0 d.span_id) d.span)
+
 -- a span must have its id and its start
 abbrev span_draft : Draft SpanDraft Span SpanField
-span_draft = record { get = λ d. d.span; one = λ d. d.has_span_id; two = λ d. d.has_start; is_one = is_span_id; is-two = is_start }
+span_draft = record { get = got; one = λ d. has d.span_id; two = λ d. has d.start; is_one = is_span_id; is-two = is_start }
+
+ends : (at : ℕ) (d : SpanDraft) (s : State) → spec.finish at d s ≡ finish_of span_draft layer.Span at d s
+ends at d s = go d.span_id d.start
+  where
+    go : (id : Option ℕ) (t : Option ℤ) → spec.finished at d.span id t s ≡ pick (has id) (pick (has t) (give (with_start (or_else (pos 0) t) (with_span_id (or_else 0 id) d.span))) (refuse InvalidFormat layer.Span at)) (refuse InvalidFormat layer.Span at) s
+    go (Some id) (Some t) = refl
+    go (Some id) None = refl
+    go None t = refl
 
 opened : {v : wire.Span} {p q : Standing} → SpanAt v p q → Opened span_draft with_span_field spec.no_span wire.no_span SpanFieldAt v (count_span p) q
 opened (span {l} t a b) = record { fields = l; all = refl; there = t; has_one = or_some a; has-two = or_some b }
@@ -50,8 +65,8 @@ module _ (input : List ℕ) (room : Room) where
   Puts f c d s s' = Drafted span_draft (shown_span input) with_span_field (Inside (of_spans input)) (f ∷ []) c d s s'
 
   -- a field, where no record is taken
-  plain : (f : SpanField) (c d : SpanDraft) (s q : State) → q.pools ≡ s.pools → span_draft.one d ≡ sees span_draft.is_one (f ∷ []) || span_draft.one c → span_draft.two d ≡ sees span_draft.is-two (f ∷ []) || span_draft.two c → ((v : wire.Span) → shown_span input q.pools c.span ≡ some v → shown_span input q.pools d.span ≡ some (with_span_field v f)) → Puts f c d s q
-  plain f c d s q e a b put = record { fills = span-field input f c.span d.span s q ((moving-inside (of_spans input)).none s q e) put; ones = a; twos = b }
+  plain : (f : SpanField) (c d : SpanDraft) (s q : State) → q.pools ≡ s.pools → span_draft.one d ≡ sees span_draft.is_one (f ∷ []) || span_draft.one c → span_draft.two d ≡ sees span_draft.is-two (f ∷ []) || span_draft.two c → ((v : wire.Span) → shown_span input q.pools (got c) ≡ some v → shown_span input q.pools (got d) ≡ some (with_span_field v f)) → Puts f c d s q
+  plain f c d s q e a b put = record { fills = span-field input f (got c) (got d) s q ((moving-inside (of_spans input)).none s q e) put; ones = a; twos = b }
 
   text-field : (k : ℕ) {x : wire.Text} {p m q : Standing} → is_text k ≡ true → KeyAt k p m → TextAt x m q → (f : SpanField) × SpanFieldAt f p q
   text-field k {x} is h t =
@@ -84,49 +99,49 @@ module _ (input : List ℕ) (room : Room) where
 
   field-complete : (c : SpanDraft) {f : SpanField} {p q : Standing} → SpanFieldAt f p q → Fits (rooms_of room) q → (s : State) → standing input s ≡ p → Does (λ d s'. (standing input s' ≡ q) × Puts f c d s s') (span_field input room c s)
   field-complete c (SpanFieldAt.service {x} h g) i s e =
-      one_field input room layer.Span (λ k. span_at input room k c) (reads-text input room) (λ x. put (with_service x c.span) c) refl h g i s e (λ y m q kept z. plain (SpanField.service x) c (put (with_service y c.span) c) s q (z.1 ∙ kept) refl refl (λ v w. span-service input q.pools c.span v w y x z.0))
+      one_field input room layer.Span (λ k. span_at input room k c) (reads-text input room) (λ x. put (with_service x c.span) c) refl h g i s e (λ y m q kept z. plain (SpanField.service x) c (put (with_service y c.span) c) s q (z.1 ∙ kept) refl refl (λ v w. span-service input q.pools (got c) v w y x z.0))
   field-complete c (SpanFieldAt.name {x} h g) i s e =
-      one_field input room layer.Span (λ k. span_at input room k c) (reads-text input room) (λ x. put (with_name x c.span) c) refl h g i s e (λ y m q kept z. plain (SpanField.name x) c (put (with_name y c.span) c) s q (z.1 ∙ kept) refl refl (λ v w. span-name input q.pools c.span v w y x z.0))
+      one_field input room layer.Span (λ k. span_at input room k c) (reads-text input room) (λ x. put (with_name x c.span) c) refl h g i s e (λ y m q kept z. plain (SpanField.name x) c (put (with_name y c.span) c) s q (z.1 ∙ kept) refl refl (λ v w. span-name input q.pools (got c) v w y x z.0))
   field-complete c (SpanFieldAt.resource {x} h g) i s e =
-      one_field input room layer.Span (λ k. span_at input room k c) (reads-text input room) (λ x. put (with_resource x c.span) c) refl h g i s e (λ y m q kept z. plain (SpanField.resource x) c (put (with_resource y c.span) c) s q (z.1 ∙ kept) refl refl (λ v w. span-resource input q.pools c.span v w y x z.0))
+      one_field input room layer.Span (λ k. span_at input room k c) (reads-text input room) (λ x. put (with_resource x c.span) c) refl h g i s e (λ y m q kept z. plain (SpanField.resource x) c (put (with_resource y c.span) c) s q (z.1 ∙ kept) refl refl (λ v w. span-resource input q.pools (got c) v w y x z.0))
   field-complete c (SpanFieldAt.span_id {x} h g) i s e =
-      one_same input room layer.Span (λ k. span_at input room k c) (reads-item input (takes-natural 0xffffffffffffffff) layer.Span room) (λ x. put_id (with_span_id x c.span) c) refl h g i s e (λ q kept. plain (SpanField.span_id x) c (put_id (with_span_id x c.span) c) s q kept refl refl (λ v w. span-span_id input q.pools c.span v w x))
+      one_same input room layer.Span (λ k. span_at input room k c) (reads-item input (takes-natural 0xffffffffffffffff) layer.Span room) (λ x. put_id x c) refl h g i s e (λ q kept. plain (SpanField.span_id x) c (put_id x c) s q kept refl refl (λ v w. span-span_id input q.pools (got c) v w x))
   field-complete c (SpanFieldAt.parent_id {x} h g) i s e =
-      one_same input room layer.Span (λ k. span_at input room k c) (reads-item input (takes-natural 0xffffffffffffffff) layer.Span room) (λ x. put (with_parent_id x c.span) c) refl h g i s e (λ q kept. plain (SpanField.parent_id x) c (put (with_parent_id x c.span) c) s q kept refl refl (λ v w. span-parent_id input q.pools c.span v w x))
+      one_same input room layer.Span (λ k. span_at input room k c) (reads-item input (takes-natural 0xffffffffffffffff) layer.Span room) (λ x. put (with_parent_id x c.span) c) refl h g i s e (λ q kept. plain (SpanField.parent_id x) c (put (with_parent_id x c.span) c) s q kept refl refl (λ v w. span-parent_id input q.pools (got c) v w x))
   field-complete c (SpanFieldAt.start {x} h g) i s e =
-      one_same input room layer.Span (λ k. span_at input room k c) (reads-item input (takes-natural 0x7fffffffffffffff) layer.Span room) (λ x. put_start (with_start (pos x) c.span) c) refl h g i s e (λ q kept. plain (SpanField.start x) c (put_start (with_start (pos x) c.span) c) s q kept refl refl (λ v w. span-start input q.pools c.span v w x))
+      one_same input room layer.Span (λ k. span_at input room k c) (reads-item input (takes-natural 0x7fffffffffffffff) layer.Span room) (λ x. put_start (pos x) c) refl h g i s e (λ q kept. plain (SpanField.start x) c (put_start (pos x) c) s q kept refl refl (λ v w. span-start input q.pools (got c) v w x))
   field-complete c (SpanFieldAt.duration {x} h g) i s e =
-      one_same input room layer.Span (λ k. span_at input room k c) (reads-item input (takes-natural 0x7fffffffffffffff) layer.Span room) (λ x. put (with_duration (pos x) c.span) c) refl h g i s e (λ q kept. plain (SpanField.duration x) c (put (with_duration (pos x) c.span) c) s q kept refl refl (λ v w. span-duration input q.pools c.span v w x))
+      one_same input room layer.Span (λ k. span_at input room k c) (reads-item input (takes-natural 0x7fffffffffffffff) layer.Span room) (λ x. put (with_duration (pos x) c.span) c) refl h g i s e (λ q kept. plain (SpanField.duration x) c (put (with_duration (pos x) c.span) c) s q kept refl refl (λ v w. span-duration input q.pools (got c) v w x))
   field-complete c (SpanFieldAt.error {x} h g) i s e =
-      one_same input room layer.Span (λ k. span_at input room k c) (reads-item input takes-bool layer.Span room) (λ x. put (with_error x c.span) c) refl h g i s e (λ q kept. plain (SpanField.error x) c (put (with_error x c.span) c) s q kept refl refl (λ v w. span-error input q.pools c.span v w x))
+      one_same input room layer.Span (λ k. span_at input room k c) (reads-item input takes-bool layer.Span room) (λ x. put (with_error x c.span) c) refl h g i s e (λ q kept. plain (SpanField.error x) c (put (with_error x c.span) c) s q kept refl refl (λ v w. span-error input q.pools (got c) v w x))
   field-complete c (SpanFieldAt.attributes {x} h g) i s e =
       one_field input room layer.Span (λ k. span_at input room k c) (reads-attributes input room) (λ x. put (with_attributes x c.span) c) refl h g i s e (λ y m q kept z. record {
-        fills = span-field input (SpanField.attributes x) c.span (with_attributes y c.span) s q ((moving-inside (of_spans input)).both s m q ((moving-inside (of_spans input)).none s m kept) (nodes-in-span input m q x z.grew)) (λ v w. span-attributes input q.pools c.span v w y x z.shows);
+        fills = span-field input (SpanField.attributes x) (got c) (with_attributes y (got c)) s q ((moving-inside (of_spans input)).both s m q ((moving-inside (of_spans input)).none s m kept) (nodes-in-span input m q x z.grew)) (λ v w. span-attributes input q.pools (got c) v w y x z.shows);
         ones = refl;
         twos = refl;
       })
   field-complete c (SpanFieldAt.span_type {x} h g) i s e =
-      one_field input room layer.Span (λ k. span_at input room k c) (reads-text input room) (λ x. put (with_type x c.span) c) refl h g i s e (λ y m q kept z. plain (SpanField.span_type x) c (put (with_type y c.span) c) s q (z.1 ∙ kept) refl refl (λ v w. span_type input q.pools c.span v w y x z.0))
+      one_field input room layer.Span (λ k. span_at input room k c) (reads-text input room) (λ x. put (with_type x c.span) c) refl h g i s e (λ y m q kept z. plain (SpanField.span_type x) c (put (with_type y c.span) c) s q (z.1 ∙ kept) refl refl (λ v w. span_type input q.pools (got c) v w y x z.0))
   field-complete c (SpanFieldAt.links {x} h g) i s e =
       one_field input room layer.Span (λ k. span_at input room k c) (reads-links input room) (λ x. put (with_links x c.span) c) refl h g i s e (λ y m q kept z. record {
-        fills = span-field input (SpanField.links x) c.span (with_links y c.span) s q ((moving-inside (of_spans input)).both s m q ((moving-inside (of_spans input)).none s m kept) (links-in-span input m q x z.recorded)) (λ v w. span-links input q.pools c.span v w y x z.shows);
+        fills = span-field input (SpanField.links x) (got c) (with_links y (got c)) s q ((moving-inside (of_spans input)).both s m q ((moving-inside (of_spans input)).none s m kept) (links-in-span input m q x z.recorded)) (λ v w. span-links input q.pools (got c) v w y x z.shows);
         ones = refl;
         twos = refl;
       })
   field-complete c (SpanFieldAt.events {x} h g) i s e =
       one_field input room layer.Span (λ k. span_at input room k c) (reads-events input room) (λ x. put (with_events x c.span) c) refl h g i s e (λ y m q kept z. record {
-        fills = span-field input (SpanField.events x) c.span (with_events y c.span) s q ((moving-inside (of_spans input)).both s m q ((moving-inside (of_spans input)).none s m kept) (events-in-span input m q x z.recorded)) (λ v w. span-events input q.pools c.span v w y x z.shows);
+        fills = span-field input (SpanField.events x) (got c) (with_events y (got c)) s q ((moving-inside (of_spans input)).both s m q ((moving-inside (of_spans input)).none s m kept) (events-in-span input m q x z.recorded)) (λ v w. span-events input q.pools (got c) v w y x z.shows);
         ones = refl;
         twos = refl;
       })
   field-complete c (SpanFieldAt.env {x} h g) i s e =
-      one_field input room layer.Span (λ k. span_at input room k c) (reads-text input room) (λ x. put (with_env x c.span) c) refl h g i s e (λ y m q kept z. plain (SpanField.env x) c (put (with_env y c.span) c) s q (z.1 ∙ kept) refl refl (λ v w. span-env input q.pools c.span v w y x z.0))
+      one_field input room layer.Span (λ k. span_at input room k c) (reads-text input room) (λ x. put (with_env x c.span) c) refl h g i s e (λ y m q kept z. plain (SpanField.env x) c (put (with_env y c.span) c) s q (z.1 ∙ kept) refl refl (λ v w. span-env input q.pools (got c) v w y x z.0))
   field-complete c (SpanFieldAt.version {x} h g) i s e =
-      one_field input room layer.Span (λ k. span_at input room k c) (reads-text input room) (λ x. put (with_version x c.span) c) refl h g i s e (λ y m q kept z. plain (SpanField.version x) c (put (with_version y c.span) c) s q (z.1 ∙ kept) refl refl (λ v w. span-version input q.pools c.span v w y x z.0))
+      one_field input room layer.Span (λ k. span_at input room k c) (reads-text input room) (λ x. put (with_version x c.span) c) refl h g i s e (λ y m q kept z. plain (SpanField.version x) c (put (with_version y c.span) c) s q (z.1 ∙ kept) refl refl (λ v w. span-version input q.pools (got c) v w y x z.0))
   field-complete c (SpanFieldAt.component {x} h g) i s e =
-      one_field input room layer.Span (λ k. span_at input room k c) (reads-text input room) (λ x. put (with_component x c.span) c) refl h g i s e (λ y m q kept z. plain (SpanField.component x) c (put (with_component y c.span) c) s q (z.1 ∙ kept) refl refl (λ v w. span-component input q.pools c.span v w y x z.0))
+      one_field input room layer.Span (λ k. span_at input room k c) (reads-text input room) (λ x. put (with_component x c.span) c) refl h g i s e (λ y m q kept z. plain (SpanField.component x) c (put (with_component y c.span) c) s q (z.1 ∙ kept) refl refl (λ v w. span-component input q.pools (got c) v w y x z.0))
   field-complete c (SpanFieldAt.kind {x} h g) i s e =
-      one_same input room layer.Span (λ k. span_at input room k c) (reads-item input (takes-natural 0xffffffff) layer.Span room) (λ x. put (with_kind (span_kind_of x) c.span) c) refl h g i s e (λ q kept. plain (SpanField.kind x) c (put (with_kind (span_kind_of x) c.span) c) s q kept refl refl (λ v w. span-kind input q.pools c.span v w x))
+      one_same input room layer.Span (λ k. span_at input room k c) (reads-item input (takes-natural 0xffffffff) layer.Span room) (λ x. put (with_kind (span_kind_of x) c.span) c) refl h g i s e (λ q kept. plain (SpanField.kind x) c (put (with_kind (span_kind_of x) c.span) c) s q kept refl refl (λ v w. span-kind input q.pools (got c) v w x))
   field-complete c (SpanFieldAt.other {k} h u g) i s e =
       one-other input room layer.Span (λ k. span_at input room k c) c (unknown-over c k u) h g i s e (λ q kept. plain SpanField.other c c s q kept refl refl (λ v w. w))
 
@@ -151,4 +166,4 @@ module _ (input : List ℕ) (room : Room) where
 
   pub reads-span : (u : Unit {0}) → Reads input room SpanAt (spec.span input room u) (λ v w s s'. Recorded (of_spans input) s s' (v ∷ []))
   unfolding spec.span
-  reads-span u = reads-record input room layer.Span (of_spans input) counts-spans span_draft with_span_field spec.no_span wire.no_span (span-blank input) shape (λ c. record { sound = field-sound c; complete = field-complete c; fits = field_fits })
+  reads-span u = reads-record input room layer.Span (of_spans input) counts-spans span_draft spec.finish ends with_span_field spec.no_span wire.no_span (span-blank input) shape (λ c. record { sound = field-sound c; complete = field-complete c; fits = field_fits })

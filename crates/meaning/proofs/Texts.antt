@@ -10,7 +10,7 @@ use Rattle.msgpack.specs.Formats.{Head, positive_fixint, uint8, uint16, uint32, 
 use Rattle.msgpack.specs.Items.{item_from}
 use Rattle.utf8.specs.Machine.{well_formed}
 use Rattle.utf8.specs.Table.{Formed}
-use Rattle.utf8.proofs.Tables.{to-fold, from-fold}
+use Rattle.utf8.proofs.Tables.{to_fold, from_fold}
 use Rattle.refusal.specs.Runs.{RanOn, then}
 use Rattle.refusal.specs.declared.Layer.{Layer}
 use Rattle.span.specs.Blank.{no_place}
@@ -178,7 +178,7 @@ module _ (input : List ℕ) where
   length-post s (Some (i.Str n, end)) e =
       pick_post _ _ s.at (enough input end n) (λ k.
       pick_post _ _ s.at (well_formed (part input end n)) (λ f.
-      hit (record { size = n; offset = end; header = head-found input s e; body = bytes-here input n (moved_to end s) k; formed = from-fold (part input end n) f })) (λ f. no)) (λ k. no)
+      hit (record { size = n; offset = end; header = head-found input s e; body = bytes-here input n (moved_to end s) k; formed = from_fold (part input end n) f })) (λ f. no)) (λ k. no)
   length-post s (Some (i.Bin n, end)) e = no
   length-post s (Some (i.Array n, end)) e = no
   length-post s (Some (i.Map n, end)) e = no
@@ -245,7 +245,7 @@ module _ (input : List ℕ) where
         let w = head-answered input h s e in
         let x = bytes_cut input k (moved_to w.end s) w.stops in
         pick_yes _ _ s.at is (subst (λ o. Does (Said t s q) (length_of input o s.at)) (sym w.reads) (
-        pick_yes _ _ s.at x.left (pick_yes _ _ s.at (ap well_formed x.says ∙ to-fold f) (does (x.says, x.stops)))))
+        pick_yes _ _ s.at x.left (pick_yes _ _ s.at (ap well_formed x.says ∙ to_fold f) (does (x.says, x.stops)))))
 
     known-does : (s : State) {n : ℕ} {p q : Standing} (end : ℕ) → standing input s ≡ p → standing input (moved_to end s) ≡ q → n < length p.texts → Does (Says (get_or p.texts n []) s q) (found input (cond (ltb n (length s.texts)) (Some (get_or s.texts n no_place)) None) end (strings s))
     known-does s {n} {p} {q} end e stops lt =

@@ -1,5 +1,5 @@
 -- What the readers answer, as functions of the bytes. Assumes nothing.
-use Rattle.std.specs.Prelude.{ℕ, zero, suc, ◌+◌, ◌-◌, ◌*◌, ◌<◌, ◌≤◌, true, false, cond, List, [], ◌∷◌, length, drop, Some, None, Option, ◌==◌, nat_le, nat_lt}
+use Rattle.std.specs.Prelude.{◌≡◌, ℕ, zero, suc, ◌+◌, ◌-◌, ◌*◌, ◌<◌, ◌≤◌, true, false, cond, List, [], ◌∷◌, length, drop, Some, None, Option, ◌==◌, nat_le, nat_lt}
 use Rattle.std.specs.Borrow.{Bor}
 use Rattle.std.specs.Option.{option_map}
 use Rattle.msgpack.specs.declared.Item.{Item}
@@ -20,6 +20,12 @@ abbrev pub be : ℕ → ℕ → List ℕ → Option (ℕ × List ℕ)
 be zero v xs = Some (v, xs)
 be (suc k) v [] = None
 be (suc k) v (x ∷ xs) = be k (v * 256 + x) xs
+
+-- a reader answers an item that has to the number that stands there the relation P, and what follows the number; it
+-- answers nothing where no number stands
+abbrev pub Tells : (ℕ → Item → Type 0) → Option (ℕ × List ℕ) → Option (Item × Bor (List ℕ)) → Type 0
+Tells P None r = r ≡ None
+Tells P (Some p) r = (i : Item) × P p.0 i × (option_map front r ≡ Some (i, p.1))
 
 -- the item that a number of k bytes tells
 abbrev pub told : ℕ → (ℕ → Item) → List ℕ → Option (Item × List ℕ)

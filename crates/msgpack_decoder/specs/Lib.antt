@@ -1,3 +1,4 @@
 pub mod Chunk
 pub mod Payload
+pub mod Lending
 pub mod Whole

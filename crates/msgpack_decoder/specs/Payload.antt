@@ -1,5 +1,5 @@
 -- A payload, field by field. Assumes nothing.
-use Rattle.std.specs.Prelude.{ℕ, Bool, true, false, cond, ◌&&◌, List, ◌==◌, nat_le}
+use Rattle.std.specs.Prelude.{ℕ, Bool, ◌&&◌, List, Some, None, Option, ◌==◌, nat_le, if◌then◌else◌}
 use Rattle.refusal.specs.Runs.{◌>>=◌, give, refuse, pick, repeat}
 use Rattle.refusal.specs.declared.Kind.TheVariants.{InvalidFormat}
 use Rattle.refusal.specs.declared.Layer.TheVariants.{Payload}
@@ -15,34 +15,34 @@ use Rattle.msgpack_decoder.specs.Chunk.{chunks}
 use Rattle.msgpack_decoder.specs.declared.payload.PayloadDraft.{PayloadDraft}
 
 abbrev pub with_container : Place → TracerPayload → TracerPayload
-with_container x d = record { container_id = x; language_name = d.language_name; language_version = d.language_version; tracer_version = d.tracer_version; runtime_id = d.runtime_id; env = d.env; hostname = d.hostname; app_version = d.app_version; attributes = d.attributes; chunks = d.chunks }
+with_container x d = record d { container_id = x }
 
 abbrev pub with_language : Place → TracerPayload → TracerPayload
-with_language x d = record { container_id = d.container_id; language_name = x; language_version = d.language_version; tracer_version = d.tracer_version; runtime_id = d.runtime_id; env = d.env; hostname = d.hostname; app_version = d.app_version; attributes = d.attributes; chunks = d.chunks }
+with_language x d = record d { language_name = x }
 
 abbrev pub with_language_version : Place → TracerPayload → TracerPayload
-with_language_version x d = record { container_id = d.container_id; language_name = d.language_name; language_version = x; tracer_version = d.tracer_version; runtime_id = d.runtime_id; env = d.env; hostname = d.hostname; app_version = d.app_version; attributes = d.attributes; chunks = d.chunks }
+with_language_version x d = record d { language_version = x }
 
 abbrev pub with_tracer : Place → TracerPayload → TracerPayload
-with_tracer x d = record { container_id = d.container_id; language_name = d.language_name; language_version = d.language_version; tracer_version = x; runtime_id = d.runtime_id; env = d.env; hostname = d.hostname; app_version = d.app_version; attributes = d.attributes; chunks = d.chunks }
+with_tracer x d = record d { tracer_version = x }
 
 abbrev pub with_runtime : Place → TracerPayload → TracerPayload
-with_runtime x d = record { container_id = d.container_id; language_name = d.language_name; language_version = d.language_version; tracer_version = d.tracer_version; runtime_id = x; env = d.env; hostname = d.hostname; app_version = d.app_version; attributes = d.attributes; chunks = d.chunks }
+with_runtime x d = record d { runtime_id = x }
 
 abbrev pub with_env : Place → TracerPayload → TracerPayload
-with_env x d = record { container_id = d.container_id; language_name = d.language_name; language_version = d.language_version; tracer_version = d.tracer_version; runtime_id = d.runtime_id; env = x; hostname = d.hostname; app_version = d.app_version; attributes = d.attributes; chunks = d.chunks }
+with_env x d = record d { env = x }
 
 abbrev pub with_hostname : Place → TracerPayload → TracerPayload
-with_hostname x d = record { container_id = d.container_id; language_name = d.language_name; language_version = d.language_version; tracer_version = d.tracer_version; runtime_id = d.runtime_id; env = d.env; hostname = x; app_version = d.app_version; attributes = d.attributes; chunks = d.chunks }
+with_hostname x d = record d { hostname = x }
 
 abbrev pub with_app : Place → TracerPayload → TracerPayload
-with_app x d = record { container_id = d.container_id; language_name = d.language_name; language_version = d.language_version; tracer_version = d.tracer_version; runtime_id = d.runtime_id; env = d.env; hostname = d.hostname; app_version = x; attributes = d.attributes; chunks = d.chunks }
+with_app x d = record d { app_version = x }
 
 abbrev pub with_attributes : Range → TracerPayload → TracerPayload
-with_attributes x d = record { container_id = d.container_id; language_name = d.language_name; language_version = d.language_version; tracer_version = d.tracer_version; runtime_id = d.runtime_id; env = d.env; hostname = d.hostname; app_version = d.app_version; attributes = x; chunks = d.chunks }
+with_attributes x d = record d { attributes = x }
 
 abbrev pub with_chunks : Range → TracerPayload → TracerPayload
-with_chunks x d = record { container_id = d.container_id; language_name = d.language_name; language_version = d.language_version; tracer_version = d.tracer_version; runtime_id = d.runtime_id; env = d.env; hostname = d.hostname; app_version = d.app_version; attributes = d.attributes; chunks = x }
+with_chunks x d = record d { chunks = x }
 
 -- the keys whose fields are texts
 abbrev pub is_text : ℕ → Bool
@@ -51,28 +51,32 @@ is_text k = nat_le 2 k && nat_le k 9
 -- the text of the key k
 abbrev pub with_text : ℕ → Place → TracerPayload → TracerPayload
 with_text k x d =
-    cond (k == 2) (with_container x d) (
-    cond (k == 3) (with_language x d) (
-    cond (k == 4) (with_language_version x d) (
-    cond (k == 5) (with_tracer x d) (
-    cond (k == 6) (with_runtime x d) (
-    cond (k == 7) (with_env x d) (
-    cond (k == 8) (with_hostname x d) (
-    with_app x d)))))))
+    if k == 2 then with_container x d
+    else if k == 3 then with_language x d
+    else if k == 4 then with_language_version x d
+    else if k == 5 then with_tracer x d
+    else if k == 6 then with_runtime x d
+    else if k == 7 then with_env x d
+    else if k == 8 then with_hostname x d
+    else with_app x d
 
--- the draft with another payload; once its chunks were read; at first
+-- the draft with another payload and with chunks; and at first
 abbrev pub put : TracerPayload → PayloadDraft → PayloadDraft
-put x d = record { payload = x; saw_chunks = d.saw_chunks }
+put x d = record d { payload = x }
 
-abbrev pub put_chunks : TracerPayload → PayloadDraft → PayloadDraft
-put_chunks x d = record { payload = x; saw_chunks = true }
+abbrev pub put_chunks : Range → PayloadDraft → PayloadDraft
+put_chunks x d = record d { chunks = Some x }
 
 abbrev pub no_payload : PayloadDraft
-no_payload = record { payload = blank_payload; saw_chunks = false }
+no_payload = record { payload = blank_payload; chunks = None }
 
--- the payload, if its chunks are there; its header began at the place at
+-- the payload with the chunks, if they are there; its header began at the place at
+abbrev pub finished : ℕ → TracerPayload → Option Range → Read TracerPayload
+finished at x (Some chunks) = give (with_chunks chunks x)
+finished at x None = refuse InvalidFormat Payload at
+
 abbrev pub finish : ℕ → PayloadDraft → Read TracerPayload
-finish at d = pick d.saw_chunks (give d.payload) (refuse InvalidFormat Payload at)
+finish at d = finished at d.payload d.chunks
 
 module _ (input : List ℕ) (room : Room) where
   -- what the key k holds, put into the draft
@@ -80,7 +84,7 @@ module _ (input : List ℕ) (room : Room) where
   payload_at k d =
       pick (is_text k) (text input room >>= λ x. give (put (with_text k x d.payload) d)) (
       pick (k == 10) (attributes input room 64 >>= λ x. give (put (with_attributes x d.payload) d)) (
-      pick (k == 11) (chunks input room >>= λ x. give (put_chunks (with_chunks x d.payload) d)) (
+      pick (k == 11) (chunks input room >>= λ x. give (put_chunks x d)) (
       over input room d)))
 
   abbrev pub payload_field : PayloadDraft → Read PayloadDraft

@@ -1,5 +1,5 @@
 -- A payload from bytes: the answer or the refusal, and what the table and the records hold afterwards. Assumes nothing.
-use Rattle.std.specs.Prelude.{ℕ, ◌≤◌, Bool, cond, ◌&&◌, List, [], ◌∷◌, length, Ok, Err, Result, nat_le, nat_lt}
+use Rattle.std.specs.Prelude.{ℕ, ◌≤◌, Bool, ◌&&◌, List, [], ◌∷◌, length, Ok, Err, Result, nat_le, nat_lt, if◌then◌else◌}
 use Rattle.refusal.specs.Runs.{RanOn, refusal_at}
 use Rattle.refusal.specs.declared.Kind.TheVariants.{TooLong, BadPool}
 use Rattle.refusal.specs.declared.Layer.TheVariants.{NoLayer}
@@ -27,11 +27,20 @@ pools_fit room = nat_lt 0 room.texts && records_fit room
 
 -- n bytes, read into pools with that room
 abbrev pub limits : ℕ → Room → Result (Unit {0}) Refusal
-limits n room = cond (nat_lt 16777216 n) (Err (refusal_at TooLong NoLayer 0)) (cond (pools_fit room) (Ok tt) (Err (refusal_at BadPool NoLayer 0)))
+limits n room = if nat_lt 16777216 n then Err (refusal_at TooLong NoLayer 0) else if pools_fit room then Ok tt else Err (refusal_at BadPool NoLayer 0)
+
+-- at the input's first byte, with what is held already
+abbrev pub first_of : Held → State
+first_of h = record { at = 0; texts = h.texts; pools = h.pools }
 
 -- as reading begins: the empty text has number 0
 abbrev pub start : State
 start = record { at = 0; texts = no_place ∷ []; pools = no_pools }
+
+-- what a reading answers, and what it leaves
+abbrev pub answered : RanOn State TracerPayload → Result ReadPayload Refusal × Held
+answered (Ok p, s) = (Ok (record { payload = p; read = s.at }), record { texts = s.texts; pools = s.pools })
+answered (Err e, s) = (Err e, record { texts = s.texts; pools = s.pools })
 
 -- what is held at the end; a refusal leaves nothing
 abbrev pub ended : RanOn State TracerPayload → Result ReadPayload Refusal × Held

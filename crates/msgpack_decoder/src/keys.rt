@@ -2,7 +2,8 @@
 // SPDX-License-Identifier: Apache-2.0
 // Changed: carried over to Rattle.
 
-// The keys of a payload and of a chunk.
+// The keys of a payload and of a chunk. Constants, since each is named once more only, where
+// its field is read; an enum would name each a third time, to tell it by its number.
 pub mod trace_key {
     pub const CONTAINER_ID: u8 = 2;
 

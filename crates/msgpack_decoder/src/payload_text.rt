@@ -3,31 +3,28 @@
 // Changed: texts are places.
 
 // The text fields of a payload.
-ghost use Rattle.std.specs.Prelude.{◌≡◌};
-ghost use Rattle.msgpack_decoder.specs.Payload.{is_text, with_text};
+ghost use Rattle.std.specs.Prelude.{◌≡◌, is_some};
+ghost use Rattle.std.specs.Borrow.{sem};
+ghost use Rattle.msgpack_decoder.specs.Payload.{is_text};
+ghost use Rattle.msgpack_decoder.specs.Lending.{LendsText};
 
 use crate::keys::trace_key;
 use span::{Place, TracerPayload};
 
-// Whether the key's field is a text.
-pub fn is_text(key: u8) -> bool
-    ensures { result ≡ is_text key }
-{
-    matches!(key, trace_key::CONTAINER_ID..=trace_key::APP_VERSION_REF)
-}
-
-// The text of a key; any other than the first seven is the version of the application.
-pub fn set_text(payload: &mut TracerPayload, key: u8, text: Place)
-    ensures { payload.new ≡ with_text key text payload.old }
+// The text field of the key, if it has one.
+pub fn text_field(payload: &mut TracerPayload, key: u8) -> Option<&mut Place>
+    ensures* lends { sem 𝓛 (LendsText payload.entry key result) }
+    ensures has { is_some result ≡ is_text key }
 {
     match key {
-        trace_key::CONTAINER_ID => payload.container_id = text,
-        trace_key::LANGUAGE_NAME => payload.language_name = text,
-        trace_key::LANGUAGE_VERSION => payload.language_version = text,
-        trace_key::TRACER_VERSION => payload.tracer_version = text,
-        trace_key::RUNTIME_ID => payload.runtime_id = text,
-        trace_key::ENV_REF => payload.env = text,
-        trace_key::HOSTNAME_REF => payload.hostname = text,
-        _ => payload.app_version = text,
+        trace_key::CONTAINER_ID => Some(&mut payload.container_id),
+        trace_key::LANGUAGE_NAME => Some(&mut payload.language_name),
+        trace_key::LANGUAGE_VERSION => Some(&mut payload.language_version),
+        trace_key::TRACER_VERSION => Some(&mut payload.tracer_version),
+        trace_key::RUNTIME_ID => Some(&mut payload.runtime_id),
+        trace_key::ENV_REF => Some(&mut payload.env),
+        trace_key::HOSTNAME_REF => Some(&mut payload.hostname),
+        trace_key::APP_VERSION_REF => Some(&mut payload.app_version),
+        _ => None,
     }
 }

@@ -6,10 +6,11 @@
 ghost use Rattle.std.specs.Prelude.{◌≡◌, length};
 ghost use Rattle.span.specs.State.{most, rooms_of, held_of, nothing, memory_of, blank_behind};
 ghost use Rattle.decode.specs.State.{room_of};
-ghost use Rattle.msgpack_decoder.specs.Whole.{records_fit, limits, decoded, StoppedWithin};
+ghost use Rattle.msgpack_decoder.specs.Payload.{payload};
+ghost use Rattle.msgpack_decoder.specs.Whole.{records_fit, limits, first_of, answered, decoded, StoppedWithin};
 
 use crate::payload::decode_payload;
-use decode::Buffer;
+use decode::{Buffer, Decoder};
 use refusal::{Kind, Layer, Refusal};
 use span::{Place, Record, Records, StringTable, TracerPayload};
 
@@ -17,14 +18,16 @@ const MOST_BYTES: usize = 16_777_216;
 
 const MOST_RECORDS: usize = 65_535;
 
+// Table and records are two parameters of all functions here, since callers of `from_slice` have them apart.
+
 // What was read, and how many bytes that took.
-#[derive(Clone, Copy)]
+#[derive(Clone, Copy, PartialEq, Eq, Debug)]
 pub struct ReadPayload {
     pub payload: TracerPayload,
     pub read: usize,
 }
 
-// Whether no pool has too many records.
+// Whether no pool has too many records. Of an array of the six and `all`, the check found no proof.
 fn records_fit(table: &StringTable<'_>, records: &Records<'_>) -> bool
     ensures { result ≡ records_fit (room_of table.now records.now) }
 {
@@ -56,6 +59,27 @@ fn blank_all(table: &mut StringTable<'_>, records: &mut Records<'_>)
     records.clear();
 }
 
+// Reads from the texts and records that are held on.
+fn read_on(
+    input: &[u8],
+    records: &mut Records<'_>,
+    table: &mut StringTable<'_>,
+) -> Result<ReadPayload, Refusal>
+    ensures ran { (result, held_of table.new records.new) ≡ answered (payload input.now (room_of table.old records.old) (first_of (held_of table.old records.old))) }
+    ensures room { room_of table.new records.new ≡ room_of table.old records.old }
+    ensures within { StoppedWithin input.now result }
+{
+    let mut buf = Buffer::new(input);
+    let mut decoder = Decoder {
+        buf: &mut buf,
+        table,
+        records,
+    };
+    let payload = decode_payload(&mut decoder)?;
+    let read = decoder.offset();
+    Ok(ReadPayload { payload, read })
+}
+
 // Blanks all, reads, and blanks all again if it refuses.
 pub fn from_slice(
     input: &[u8],
@@ -71,15 +95,9 @@ pub fn from_slice(
     test_limits(input, table, records)?;
     // number 0 is the empty text
     let _ = table.record(Place::blank());
-    let mut buf = Buffer::new(input);
-    match decode_payload(&mut buf, table, records) {
-        Ok(payload) => Ok(ReadPayload {
-            payload,
-            read: buf.offset(),
-        }),
-        Err(refusal) => {
-            blank_all(table, records);
-            Err(refusal)
-        }
+    let answer = read_on(input, records, table);
+    if answer.is_err() {
+        blank_all(table, records);
     }
+    answer
 }

@@ -12,6 +12,7 @@ use refusal::Refusal;
 use span::{Records, StringTable};
 
 // Reads the payload that the input begins with.
+#[tactic(auto, using(meaning::proofs::Decodes::decodes))]
 pub fn read(
     input: &[u8],
     records: &mut Records<'_>,

@@ -5,41 +5,44 @@
 // Why a call refuses: a kind, the layer of the item that is refused, and a place.
 #![tactic(auto)]
 
-ghost use Rattle.std.specs.Prelude.{◌≡◌};
+ghost use Rattle.std.specs.Prelude.{◌≡◌, Some};
 ghost use Rattle.refusal.specs.Numbers.{kind_number, layer_number};
 ghost use Rattle.refusal.specs.Runs.{refusal_at};
+ghost use Rattle.refusal.specs.Text.{refusal_text};
 
-#[derive(Clone, Copy)]
+use std::fmt;
+
+#[derive(Clone, Copy, PartialEq, Eq, Debug)]
 pub enum Kind {
-    InvalidConversion,
-    InvalidType,
-    InvalidFormat,
-    IOError,
-    Utf8Error,
-    TooLong,
-    BadPool,
-    TooDeep,
-    PoolFull,
-    TextsFull,
-    BadRecord,
-    Full,
-    EndOfRoll,
+    InvalidConversion = 1,
+    InvalidType = 2,
+    InvalidFormat = 3,
+    IOError = 4,
+    Utf8Error = 5,
+    TooLong = 6,
+    BadPool = 7,
+    TooDeep = 8,
+    PoolFull = 9,
+    TextsFull = 10,
+    BadRecord = 11,
+    Full = 12,
+    EndOfRoll = 13,
 }
 
-#[derive(Clone, Copy)]
+#[derive(Clone, Copy, PartialEq, Eq, Debug)]
 pub enum Layer {
-    NoLayer,
-    Payload,
-    Chunk,
-    Span,
-    Link,
-    Event,
-    Attribute,
-    Text,
-    Skipped,
+    NoLayer = 0,
+    Payload = 1,
+    Chunk = 2,
+    Span = 3,
+    Link = 4,
+    Event = 5,
+    Attribute = 6,
+    Text = 7,
+    Skipped = 8,
 }
 
-#[derive(Clone, Copy)]
+#[derive(Clone, Copy, PartialEq, Eq, Debug)]
 pub struct Refusal {
     pub kind: Kind,
     pub layer: Layer,
@@ -50,21 +53,7 @@ impl Kind {
     pub fn number(self) -> u8
         ensures { result ≡ kind_number self }
     {
-        match self {
-            Kind::InvalidConversion => 1,
-            Kind::InvalidType => 2,
-            Kind::InvalidFormat => 3,
-            Kind::IOError => 4,
-            Kind::Utf8Error => 5,
-            Kind::TooLong => 6,
-            Kind::BadPool => 7,
-            Kind::TooDeep => 8,
-            Kind::PoolFull => 9,
-            Kind::TextsFull => 10,
-            Kind::BadRecord => 11,
-            Kind::Full => 12,
-            Kind::EndOfRoll => 13,
-        }
+        self as u8
     }
 }
 
@@ -72,17 +61,7 @@ impl Layer {
     pub fn number(self) -> u8
         ensures { result ≡ layer_number self }
     {
-        match self {
-            Layer::NoLayer => 0,
-            Layer::Payload => 1,
-            Layer::Chunk => 2,
-            Layer::Span => 3,
-            Layer::Link => 4,
-            Layer::Event => 5,
-            Layer::Attribute => 6,
-            Layer::Text => 7,
-            Layer::Skipped => 8,
-        }
+        self as u8
     }
 }
 
@@ -95,5 +74,17 @@ impl Refusal {
             layer,
             place: place as u64,
         }
+    }
+}
+
+// By its numbers, with a space between two.
+impl fmt::Display for Refusal {
+    ghost output = { λ e. Some (refusal_text e) };
+
+    fn fmt<W: fmt::Write>(&self, f: &mut fmt::Formatter<W>) -> fmt::Result {
+        let kind = self.kind.number();
+        let layer = self.layer.number();
+        let place = self.place;
+        write!(f, "{kind} {layer} {place}")
     }
 }

@@ -1,26 +1,41 @@
 -- One level of a value that is stepped over, and one turn of the loop over its members. Assumes nothing.
 use Rattle.std.proofs.Common.{◌≡◌, ℕ, suc, ◌+◌, ◌-◌, ◌<◌, Bool, List, Ok, Err, ap, ◌∙◌, arith}
-use Rattle.refusal.specs.Runs.{RanOn, refuse, repeat}
+use Rattle.refusal.specs.Runs.{ReadOn, refuse, repeat}
 use Rattle.refusal.specs.declared.Kind.TheVariants.{TooDeep}
 use Rattle.refusal.specs.declared.Layer.TheVariants.{Skipped}
 use Rattle.refusal.specs.declared.Refusal.{Refusal}
 use Rattle.refusal.proofs.Turns.{repeat-more, repeat-refused}
 use Rattle.decode.specs.Texts.{Strings}
+use Rattle.skipped.specs.declared.Skipper.{Skipper}
 use Rattle.skipped.specs.Skip.{level, skip}
+use Rattle.skipped.specs.State.{input_of, most_of, noting_of, at_of, Kept, Did}
 
 module _ (input : List ℕ) (most : ℕ) (noting : Bool) (start : ℕ) where
-  pub skip-none : (depth : ℕ) (s : Strings) → depth ≡ 0 → skip input most noting start depth tt s ≡ refuse TooDeep Skipped start s
+  pub skip_none : (depth : ℕ) (s : Strings) → depth ≡ 0 → skip input most noting start depth tt s ≡ refuse TooDeep Skipped start s
   unfolding skip
-  skip-none depth s e = ap (λ n. skip input most noting start n tt s) e
+  skip_none depth s e = ap (λ n. skip input most noting start n tt s) e
 
   pub skip_at : (depth : ℕ) (s : Strings) → 0 < depth → skip input most noting start depth tt s ≡ level input most noting start (skip input most noting start (depth - 1)) s
   unfolding skip
   skip_at depth s h = let e : depth ≡ suc (depth - 1) = omega arith in ap (λ n. skip input most noting start n tt s) e
 
--- a reader on the bytes b with room for m texts, which were those of before, b₀ and m₀
-module _ (b₀ b : List ℕ) (m₀ m : ℕ) (noting : Bool) (start depth : ℕ) (bytes : b ≡ b₀) (most : m ≡ m₀) where
-  pub again-more : (s : Strings) {n i : ℕ} {t : Strings} {out : RanOn Strings (Unit {0})} → repeat (skip b₀ m₀ noting start depth) (n - i) tt s ≡ out → i < n → (Ok tt, t) ≡ skip b m noting start depth tt s → repeat (skip b₀ m₀ noting start depth) (n - (i + 1)) tt t ≡ out
-  again-more s inv h ran = repeat-more (skip b₀ m₀ noting start depth) inv h (ran ∙ λ j. skip (bytes j) (most j) noting start depth tt s)
+-- members with so many levels below them, which a skipper steps over from a on
+module _ {n : ℕ} (depth : ℕ) (a : Skipper n) where
+  abbrev member : Unit {0} → ReadOn Strings (Unit {0})
+  member = skip (input_of a) (most_of a) (noting_of a) a.start depth
 
-  pub again-refused : (s : Strings) {n i : ℕ} {e : Refusal} {t : Strings} {out : RanOn Strings (Unit {0})} → repeat (skip b₀ m₀ noting start depth) (n - i) tt s ≡ out → i < n → (Err e, t) ≡ skip b m noting start depth tt s → (Err e, t) ≡ out
-  again-refused s inv h ran = repeat-refused (skip b₀ m₀ noting start depth) inv h (ran ∙ λ j. skip (bytes j) (most j) noting start depth tt s)
+  -- i of them so far: what is left to read at b gives what all of them give
+  abbrev pub Left : ℕ → ℕ → Skipper n → Type 0
+  Left count i b = Kept a b × (repeat member (count - i) tt (at_of b) ≡ repeat member count tt (at_of a))
+
+  same : {b : Skipper n} → Kept a b → (s : Strings) → skip (input_of b) (most_of b) (noting_of b) b.start depth tt s ≡ member tt s
+  same k s = λ j. skip (k.bytes j) (k.most j) (noting_of a) (k.start j) depth tt s
+
+  kept_also : {b c : Skipper n} → Kept a b → Kept b c → Kept a c
+  kept_also k m = record { bytes = m.bytes ∙ k.bytes; most = m.most ∙ k.most; start = m.start ∙ k.start; buf = m.buf ∙ k.buf; table = m.table ∙ k.table }
+
+  pub turn_more : {count i : ℕ} {b c : Skipper n} → Left count i b → i < count → Did (λ input most noting start. skip input most noting start depth tt) b c (Ok tt) → Left count (i + 1) c
+  turn_more {b = b} inv h did = (kept_also inv.0 did.kept, repeat-more member inv.1 h (did.ran ∙ same inv.0 (at_of b)))
+
+  pub turn_refused : {count i : ℕ} {b c : Skipper n} {e : Refusal} → Left count i b → i < count → Did (λ input most noting start. skip input most noting start depth tt) b c (Err e) → Did (λ input most noting start. repeat (skip input most noting start depth) count tt) a c (Err e)
+  turn_refused {b = b} inv h did = record { ran = repeat-refused member inv.1 h (did.ran ∙ same inv.0 (at_of b)); kept = kept_also inv.0 did.kept }

@@ -13,7 +13,7 @@ use Rattle.decode.specs.Binary.{part, enough}
 use Rattle.decode.specs.Texts.{Strings}
 
 abbrev pub moved : ℕ → Strings → Strings
-moved n s = record { at = n; texts = s.texts }
+moved n s = record s { at = n }
 
 -- n bytes of the value that begins at start
 abbrev pub body : List ℕ → ℕ → ℕ → ReadOn Strings (Unit {0})
@@ -23,7 +23,7 @@ body input start n s = pick (enough input s.at n) (λ s. (Ok tt, moved (s.at + n
 module _ (input : List ℕ) (most : ℕ) (noting : Bool) (start : ℕ) where
   -- the text takes the next number; the string begins at the place at
   abbrev pub note : ℕ → Place → ReadOn Strings (Unit {0})
-  note at t s = pick (fits most s.texts) (λ s. (Ok tt, record { at = s.at; texts = s.texts ++ t ∷ [] })) (refuse TextsFull Skipped at) s
+  note at t s = pick (fits most s.texts) (λ s. (Ok tt, record s { texts = s.texts ++ t ∷ [] })) (refuse TextsFull Skipped at) s
 
   -- what the string that began at the place at, with n bytes from the offset on, adds to the texts
   abbrev pub note_if : ℕ → ℕ → ℕ → ReadOn Strings (Unit {0})
@@ -34,17 +34,12 @@ module _ (input : List ℕ) (most : ℕ) (noting : Bool) (start : ℕ) where
 
   -- what follows an item's head, where members are read by below; the head began at the place at
   abbrev pub skip_of : (Unit {0} → ReadOn Strings (Unit {0})) → ℕ → Item → ReadOn Strings (Unit {0})
-  skip_of below at i.Nil = give tt
-  skip_of below at (i.Bool b) = give tt
-  skip_of below at (i.Unsigned n) = give tt
-  skip_of below at (i.Signed z) = give tt
-  skip_of below at (i.Float n) = give tt
-  skip_of below at (i.Double n) = give tt
   skip_of below at (i.Str n) = skip_string at n
   skip_of below at (i.Bin n) = body input start n
+  skip_of below at (i.Ext n) = body input start n
   skip_of below at (i.Array n) = repeat below n tt
   skip_of below at (i.Map n) = repeat below (2 * n) tt
-  skip_of below at (i.Ext n) = body input start n
+  skip_of below at _ = give tt
 
   abbrev pub headed : (Unit {0} → ReadOn Strings (Unit {0})) → Option (Item × ℕ) → ReadOn Strings (Unit {0})
   headed below None s = refuse InvalidFormat Skipped start s

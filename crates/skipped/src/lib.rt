@@ -6,10 +6,11 @@
 #![tactic(auto)]
 
 ghost use Rattle.std.specs.Prelude.{◌≡◌};
-ghost use Rattle.refusal.specs.Runs.{repeat};
-ghost use Rattle.span.specs.State.{most};
-ghost use Rattle.decode.specs.State.{bytes_of, strings_of};
-ghost use Rattle.skipped.specs.Skip.{body, note_if, skip_string, skip_of, level, skip, skipped};
+ghost use Rattle.refusal.specs.Runs.{refusal_at, repeat};
+ghost use Rattle.refusal.specs.declared.Layer.TheVariants.{Skipped};
+ghost use Rattle.decode.specs.State.{RanTexts};
+ghost use Rattle.skipped.specs.Skip.{body, skip_string, level, skip, skipped};
+ghost use Rattle.skipped.specs.State.{Did};
 
 use decode::Buffer;
 use msgpack::Item;
@@ -20,141 +21,89 @@ use utf8::is_utf8;
 // The value itself has depth 1.
 const LEVELS: usize = 64;
 
-// Steps over n bytes of the value that begins at `start`.
-fn skip_bytes(
-    buf: &mut Buffer<'_>,
-    table: &StringTable<'_>,
+// Steps over the value that begins at `start`. NOTING: whether the strings in it take their numbers.
+#[derive(Drop)]
+struct Skipper<'b, 'i, 's, 't, const NOTING: bool> {
+    buf: &'b mut Buffer<'i>,
+    table: &'s mut StringTable<'t>,
     start: usize,
-    n: u32,
-) -> Result<(), Refusal>
-    ensures ran { (result, strings_of buf.new table.now) ≡ body (bytes_of buf.old) start n (strings_of buf.old table.now) }
-    ensures kept { bytes_of buf.new ≡ bytes_of buf.old }
-{
-    match buf.try_slice_and_advance(n as usize) {
-        Some(_) => Ok(()),
-        None => Err(Refusal::new(Kind::InvalidFormat, Layer::Skipped, start)),
-    }
 }
 
-// Steps over a string of n bytes, whose first byte is at `at`. Where `noting` is set and it is text, it takes the next number.
-fn skip_string(
-    buf: &mut Buffer<'_>,
-    table: &mut StringTable<'_>,
-    noting: bool,
-    start: usize,
-    at: usize,
-    n: u32,
-) -> Result<(), Refusal>
-    ensures ran { (result, strings_of buf.new table.new) ≡ skip_string (bytes_of buf.old) (most table.old) noting start at n (strings_of buf.old table.old) }
-    ensures kept { bytes_of buf.new ≡ bytes_of buf.old }
-    ensures most { most table.new ≡ most table.old }
-{
-    let offset = buf.offset();
-    let length = n as usize;
-    match buf.try_slice_and_advance(length) {
-        Some(part) => {
-            if noting && is_utf8(part) && !table.record(Place { offset, length }) {
-                return Err(Refusal::new(Kind::TextsFull, Layer::Skipped, at));
-            }
-            Ok(())
+impl<const NOTING: bool> Skipper<'_, '_, '_, '_, NOTING> {
+    // The value is refused where it begins.
+    fn refused(&self, kind: Kind) -> Refusal
+        ensures { result ≡ refusal_at kind Skipped self.now.start }
+    {
+        Refusal::new(kind, Layer::Skipped, self.start)
+    }
+
+    fn skip_bytes(&mut self, n: u32) -> Result<(), Refusal>
+        ensures { Did (λ input most noting start. body input start n) self.old self.new result }
+    {
+        match self.buf.try_slice_and_advance(n as usize) {
+            Some(_) => Ok(()),
+            None => Err(self.refused(Kind::InvalidFormat)),
         }
-        None => Err(Refusal::new(Kind::InvalidFormat, Layer::Skipped, start)),
     }
-}
 
-// What follows the head of an item that began at `at`, with `depth` levels below it.
-#[cycle(skip_item_skip_level_skip_value_skip_values)]
-fn skip_item(
-    buf: &mut Buffer<'_>,
-    table: &mut StringTable<'_>,
-    noting: bool,
-    start: usize,
-    at: usize,
-    item: Item,
-    depth: usize,
-) -> Result<(), Refusal>
-    ensures ran { (result, strings_of buf.new table.new) ≡ skip_of (bytes_of buf.old) (most table.old) noting start (skip (bytes_of buf.old) (most table.old) noting start depth) at item (strings_of buf.old table.old) }
-    ensures kept { bytes_of buf.new ≡ bytes_of buf.old }
-    ensures most { most table.new ≡ most table.old }
-{
-    match item {
-        Item::Str(n) => skip_string(buf, table, noting, start, at, n),
-        Item::Bin(n) => skip_bytes(buf, table, start, n),
-        Item::Ext(n) => skip_bytes(buf, table, start, n),
-        Item::Array(n) => skip_values(buf, table, noting, start, n as u64, depth),
-        Item::Map(n) => skip_values(buf, table, noting, start, 2 * n as u64, depth),
-        _ => Ok(()),
-    }
-}
-
-#[cycle(skip_item_skip_level_skip_value_skip_values)]
-fn skip_level(
-    buf: &mut Buffer<'_>,
-    table: &mut StringTable<'_>,
-    noting: bool,
-    start: usize,
-    depth: usize,
-) -> Result<(), Refusal>
-    ensures ran { (result, strings_of buf.new table.new) ≡ level (bytes_of buf.old) (most table.old) noting start (skip (bytes_of buf.old) (most table.old) noting start depth) (strings_of buf.old table.old) }
-    ensures kept { bytes_of buf.new ≡ bytes_of buf.old }
-    ensures most { most table.new ≡ most table.old }
-{
-    let at = buf.offset();
-    match buf.item() {
-        Some((item, end)) => {
-            buf.seek(end);
-            skip_item(buf, table, noting, start, at, item, depth)
+    // A string of n bytes, whose head begins at `at`. One that is noted takes the next number, if it is text.
+    fn skip_string(&mut self, at: usize, n: u32) -> Result<(), Refusal>
+        ensures { Did (λ input most noting start. skip_string input most noting start at n) self.old self.new result }
+    {
+        let offset = self.buf.offset();
+        let length = n as usize;
+        let Some(contents) = self.buf.try_slice_and_advance(length) else {
+            return Err(self.refused(Kind::InvalidFormat));
+        };
+        if NOTING && is_utf8(contents) {
+            let full = Refusal::new(Kind::TextsFull, Layer::Skipped, at);
+            self.table.record(Place { offset, length }).ok_or(full)?;
         }
-        None => Err(Refusal::new(Kind::InvalidFormat, Layer::Skipped, start)),
+        Ok(())
+    }
+
+    // A value with at most `depth` levels.
+    #[cycle(skip)]
+    #[tactic(auto, using(crate::proofs::Levels::skip_at, crate::proofs::Levels::skip_none))]
+    fn skip_value(&mut self, depth: usize) -> Result<(), Refusal>
+        ensures { Did (λ input most noting start. skip input most noting start depth tt) self.old self.new result }
+    {
+        if depth == 0 {
+            return Err(self.refused(Kind::TooDeep));
+        }
+        let at = self.buf.offset();
+        let Some((item, end)) = self.buf.item() else {
+            return Err(self.refused(Kind::InvalidFormat));
+        };
+        self.buf.seek(end);
+        match item {
+            Item::Str(n) => self.skip_string(at, n),
+            Item::Bin(n) | Item::Ext(n) => self.skip_bytes(n),
+            Item::Array(n) => self.skip_values(n as u64, depth - 1),
+            Item::Map(n) => self.skip_values(2 * n as u64, depth - 1),
+            _ => Ok(()),
+        }
+    }
+
+    #[cycle(skip)]
+    #[tactic(auto, using(crate::proofs::Levels::turn_more, crate::proofs::Levels::turn_refused))]
+    fn skip_values(&mut self, count: u64, depth: usize) -> Result<(), Refusal>
+        ensures { Did (λ input most noting start. repeat (skip input most noting start depth) count tt) self.old self.new result }
+    {
+        for _ in 0..count {
+            self.skip_value(depth)?;
+        }
+        Ok(())
     }
 }
 
-// A value with at most `depth` levels.
-#[cycle(skip_item_skip_level_skip_value_skip_values)]
-fn skip_value(
-    buf: &mut Buffer<'_>,
-    table: &mut StringTable<'_>,
-    noting: bool,
-    start: usize,
-    depth: usize,
-) -> Result<(), Refusal>
-    ensures ran { (result, strings_of buf.new table.new) ≡ skip (bytes_of buf.old) (most table.old) noting start depth tt (strings_of buf.old table.old) }
-    ensures kept { bytes_of buf.new ≡ bytes_of buf.old }
-    ensures most { most table.new ≡ most table.old }
-{
-    if depth == 0 {
-        return Err(Refusal::new(Kind::TooDeep, Layer::Skipped, start));
-    }
-    skip_level(buf, table, noting, start, depth - 1)
-}
-
-#[cycle(skip_item_skip_level_skip_value_skip_values)]
-fn skip_values(
-    buf: &mut Buffer<'_>,
-    table: &mut StringTable<'_>,
-    noting: bool,
-    start: usize,
-    count: u64,
-    depth: usize,
-) -> Result<(), Refusal>
-    ensures ran { (result, strings_of buf.new table.new) ≡ repeat (skip (bytes_of buf.old) (most table.old) noting start depth) count tt (strings_of buf.old table.old) }
-    ensures kept { bytes_of buf.new ≡ bytes_of buf.old }
-    ensures most { most table.new ≡ most table.old }
-{
-    for _ in 0..count {
-        skip_value(buf, table, noting, start, depth)?;
-    }
-    Ok(())
-}
-
-// Steps over the value: it is read whole first, and then its strings take their numbers.
+// Steps over the value: it is read whole first, and then its strings take their numbers. Buffer and table are two
+// parameters, as in the readers of texts.
 pub fn skip_unknown_value(buf: &mut Buffer<'_>, table: &mut StringTable<'_>) -> Result<(), Refusal>
-    ensures ran { (result, strings_of buf.new table.new) ≡ skipped (bytes_of buf.old) (most table.old) (strings_of buf.old table.old) }
-    ensures kept { bytes_of buf.new ≡ bytes_of buf.old }
-    ensures most { most table.new ≡ most table.old }
+    ensures { RanTexts skipped buf.old buf.new table.old table.new result }
 {
     let start = buf.offset();
-    skip_value(buf, table, false, start, LEVELS)?;
+    Skipper::<false> { buf, table, start }.skip_value(LEVELS)?;
     buf.seek(start);
-    skip_value(buf, table, true, start, LEVELS)
+    Skipper::<true> { buf, table, start }.skip_value(LEVELS)
 }

@@ -1,5 +1,5 @@
 -- What places and nodes show of the bytes. Assumes nothing.
-use Rattle.std.specs.Prelude.{ℕ, ◌+◌, ◌-◌, Bool, cond, List, length, get_or, take, drop, ℤ, Ok, Err, Result, ◌==◌, nat_le, nat_lt, slice_index_or}
+use Rattle.std.specs.Prelude.{ℕ, ◌+◌, ◌-◌, Bool, List, length, take, drop, ℤ, Ok, Err, Result, ◌==◌, nat_le, nat_lt, slice_index_or, if◌then◌else◌}
 use Rattle.std.specs.Borrow.{Bor}
 use Rattle.std.specs.Int.{w64}
 use Rattle.std.proofs.Common.{to_z}
@@ -51,26 +51,32 @@ map_ok f (Err e) = Err e
 module _ (bytes : List ℕ) where
   -- the bytes at a place within them
   abbrev pub text_shown : Place → Result (List ℕ) Refusal
-  text_shown p = cond (nat_le p.offset (length bytes)) (cond (nat_le p.length (length bytes - p.offset)) (Ok (take p.length (drop p.offset bytes))) bad) bad
+  text_shown p =
+      if nat_le p.offset (length bytes)
+      then (if nat_le p.length (length bytes - p.offset) then Ok (take p.length (drop p.offset bytes)) else bad)
+      else bad
 
   -- a node with nothing inside
   abbrev pub leaf_shown : Node → Result Shown Refusal
   leaf_shown n =
-      cond (n.type_number == 1) (map_ok String (text_shown n.place))
-      (cond (n.type_number == 2) (cond (nat_lt n.pattern 2) (Ok (Truth (n.pattern == 1))) bad)
-      (cond (n.type_number == 3) (Ok (Float n.pattern))
-      (cond (n.type_number == 4) (Ok (Int (to_z w64 n.pattern)))
-      (cond (n.type_number == 5) (map_ok Bytes (text_shown n.place))
-      bad))))
+      if n.type_number == 1 then map_ok String (text_shown n.place)
+      else if n.type_number == 2 then (if nat_lt n.pattern 2 then Ok (Truth (n.pattern == 1)) else bad)
+      else if n.type_number == 3 then Ok (Float n.pattern)
+      else if n.type_number == 4 then Ok (Int (to_z w64 n.pattern))
+      else if n.type_number == 5 then map_ok Bytes (text_shown n.place)
+      else bad
 
   -- the node at the index i, with as many behind it as there are
   abbrev pub node_shown : ℕ → Node → Result Shown Refusal
   node_shown i n =
-      cond (n.type_number == 6) (Ok (Members (range_of (i + 1) n.inside)))
-      (cond (n.type_number == 7) (Ok (Entries (range_of (i + 1) n.inside)))
-      (cond (nat_lt 0 n.inside) bad (leaf_shown n)))
+      if n.type_number == 6 then Ok (Members (range_of (i + 1) n.inside))
+      else if n.type_number == 7 then Ok (Entries (range_of (i + 1) n.inside))
+      else if nat_lt 0 n.inside then bad
+      else leaf_shown n
 
   -- the node at the index i of the nodes l
   abbrev pub value_shown : List Node → ℕ → Result Shown Refusal
   value_shown l i =
-      cond (nat_lt i (length l)) (cond (nat_le (get_or l i blank_node).inside (length l - i - 1)) (node_shown i (slice_index_or l i blank_node)) bad) bad
+      if nat_lt i (length l)
+      then (if nat_le (slice_index_or l i blank_node).inside (length l - i - 1) then node_shown i (slice_index_or l i blank_node) else bad)
+      else bad

@@ -5,13 +5,13 @@
 use span::Range;
 
 // The bytes that places lie in.
-#[derive(Clone, Copy)]
+#[derive(Clone, Copy, PartialEq, Eq, Debug)]
 pub struct Source<'a> {
     pub bytes: &'a [u8],
 }
 
 // A node's value, by its type.
-#[derive(Clone, Copy)]
+#[derive(Clone, Copy, PartialEq, Eq, Debug)]
 pub enum AttributeValue<'a> {
     String(&'a [u8]),
     Bool(bool),

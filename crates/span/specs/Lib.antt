@@ -1,3 +1,4 @@
 pub mod Held
 pub mod Blank
 pub mod State
+pub mod Keys

@@ -8,11 +8,11 @@ ghost use Rattle.span.specs.Blank.{span_kind_of};
 
 use crate::SpanKind;
 
-impl SpanKind {
-    // Any number but 2 to 5 means Internal.
-    pub fn from_number(kind: u32) -> SpanKind
-        ensures { result ≡ span_kind_of kind }
-    {
+// Any number but 2 to 5 means Internal.
+impl From<u32> for SpanKind {
+    ghost from_gives = { λ kind result. result ≡ span_kind_of kind };
+
+    fn from(kind: u32) -> SpanKind {
         match kind {
             2 => SpanKind::Server,
             3 => SpanKind::Client,

@@ -2,6 +2,7 @@
 #![tactic(auto)]
 
 mod blank;
+mod keys;
 mod kind;
 mod make;
 mod pool;
@@ -11,6 +12,7 @@ mod table;
 mod texts;
 mod types;
 
+pub use keys::{AnyValueKey, UnknownKey};
 pub use pool::{Pool, Record};
 pub use records::Records;
 pub use table::StringTable;

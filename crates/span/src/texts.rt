@@ -4,15 +4,15 @@
 
 // The table of texts.
 ghost use Rattle.std.specs.Prelude.{◌≡◌, [], length};
-ghost use Rattle.span.specs.Held.{pushed, fits};
+ghost use Rattle.span.specs.Held.{next_in, pushed};
 ghost use Rattle.span.specs.State.{texts_of, most, numbered};
 
-use crate::{Place, Record, StringTable};
+use crate::{Place, StringTable};
 
 impl StringTable<'_> {
-    // Records a text, which takes the next number; false where the pool has no entry left.
-    pub fn record(&mut self, text: Place) -> bool
-        ensures answer { result ≡ fits (most self.old) (texts_of self.old) }
+    // Records a text, which takes the next number; None where the pool has no entry left.
+    pub fn record(&mut self, text: Place) -> Option<usize>
+        ensures answer { result ≡ next_in (most self.old) (texts_of self.old) }
         ensures after { texts_of self.new ≡ pushed (most self.old) text (texts_of self.old) }
         ensures same { most self.new ≡ most self.old }
     {
@@ -23,12 +23,7 @@ impl StringTable<'_> {
     pub fn resolve(&self, id: u64) -> Option<Place>
         ensures { result ≡ numbered id (texts_of self.now) }
     {
-        let index = id as usize;
-        if index < self.texts.len() {
-            Some(self.texts.get_or(index, Place::blank()))
-        } else {
-            None
-        }
+        self.texts.as_slice().get(id as usize).copied()
     }
 
     pub fn len(&self) -> usize

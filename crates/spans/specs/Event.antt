@@ -1,24 +1,25 @@
 -- Span events. Assumes nothing.
-use Rattle.std.specs.Prelude.{ℕ, List, length, ◌==◌}
-use Rattle.refusal.specs.Runs.{◌>>=◌, give, pick, repeat}
+use Rattle.std.specs.Prelude.{ℕ, List, ◌==◌}
+use Rattle.refusal.specs.Runs.{◌>>=◌, give, pick}
 use Rattle.refusal.specs.declared.Layer.TheVariants.{Event, Span}
-use Rattle.span.specs.Blank.{range_of, blank_event}
+use Rattle.span.specs.Blank.{blank_event}
 use Rattle.span.specs.declared.types.Place.{Place}
 use Rattle.span.specs.declared.types.Range.{Range}
 use Rattle.span.specs.declared.types.SpanEvent.{SpanEvent}
-use Rattle.decode.specs.Items.{item_of, is_array, is_map, up_to}
-use Rattle.decode.specs.Reader.{Room, Read, events_part, reserve_in, write_in, placed, text}
+use Rattle.decode.specs.Items.{item_of, up_to}
+use Rattle.decode.specs.Reader.{Room, Read, events_part, placed, text}
 use Rattle.attributes.specs.Attributes.{attributes}
 use Rattle.skipped.specs.Over.{over}
+use Rattle.spans.specs.Records.{record_in, records_in}
 
 abbrev pub with_time : ℕ → SpanEvent → SpanEvent
-with_time x d = record { time_unix_nano = x; name = d.name; attributes = d.attributes }
+with_time x d = record d { time_unix_nano = x }
 
 abbrev pub with_name : Place → SpanEvent → SpanEvent
-with_name x d = record { time_unix_nano = d.time_unix_nano; name = x; attributes = d.attributes }
+with_name x d = record d { name = x }
 
 abbrev pub with_attributes : Range → SpanEvent → SpanEvent
-with_attributes x d = record { time_unix_nano = d.time_unix_nano; name = d.name; attributes = x }
+with_attributes x d = record d { attributes = x }
 
 module _ (input : List ℕ) (room : Room) where
   -- what the key k holds, put into the event
@@ -32,17 +33,9 @@ module _ (input : List ℕ) (room : Room) where
   abbrev pub event_field : SpanEvent → Read SpanEvent
   event_field d = placed (item_of (up_to 0xff) input Event) >>= λ k. event_at k d
 
-  -- a record is taken before its header is read, and written when all its fields are
   abbrev pub event : Unit {0} → Read (Unit {0})
-  event u =
-      reserve_in events_part Event room >>= λ index.
-      placed (item_of is_map input Event) >>= λ n.
-      repeat event_field n blank_event >>= λ d.
-      write_in events_part index d
+  event = record_in input room Event events_part event_field blank_event (λ at d. give d)
 
   -- All events of a span, as a range of the pool. Not an `abbrev`: what stands above need not look inside.
   unfoldable pub events : Read Range
-  events s =
-      (placed (item_of is_array input Span) >>= λ n.
-      repeat event n tt >>= λ u.
-      give (range_of (length s.pools.events) n)) s
+  events = records_in input Span events_part event

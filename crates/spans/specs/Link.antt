@@ -1,31 +1,32 @@
 -- Span links. Assumes nothing.
-use Rattle.std.specs.Prelude.{ℕ, List, length, ◌==◌}
-use Rattle.refusal.specs.Runs.{◌>>=◌, give, pick, repeat}
+use Rattle.std.specs.Prelude.{ℕ, List, ◌==◌}
+use Rattle.refusal.specs.Runs.{◌>>=◌, give, pick}
 use Rattle.refusal.specs.declared.Layer.TheVariants.{Link, Span}
-use Rattle.span.specs.Blank.{range_of, blank_link}
+use Rattle.span.specs.Blank.{blank_link}
 use Rattle.span.specs.declared.types.Place.{Place}
 use Rattle.span.specs.declared.types.Range.{Range}
 use Rattle.span.specs.declared.types.SpanLink.{SpanLink}
-use Rattle.decode.specs.Items.{item_of, is_array, is_map, up_to}
+use Rattle.decode.specs.Items.{item_of, up_to}
 use Rattle.decode.specs.Binary.{trace_id_at}
-use Rattle.decode.specs.Reader.{Room, Read, links_part, reserve_in, write_in, placed, text}
+use Rattle.decode.specs.Reader.{Room, Read, links_part, placed, text}
 use Rattle.attributes.specs.Attributes.{attributes}
 use Rattle.skipped.specs.Over.{over}
+use Rattle.spans.specs.Records.{record_in, records_in}
 
 abbrev pub with_trace_id : List ℕ → SpanLink → SpanLink
-with_trace_id x d = record { trace_id = x; span_id = d.span_id; attributes = d.attributes; tracestate = d.tracestate; flags = d.flags }
+with_trace_id x d = record d { trace_id = x }
 
 abbrev pub with_span_id : ℕ → SpanLink → SpanLink
-with_span_id x d = record { trace_id = d.trace_id; span_id = x; attributes = d.attributes; tracestate = d.tracestate; flags = d.flags }
+with_span_id x d = record d { span_id = x }
 
 abbrev pub with_attributes : Range → SpanLink → SpanLink
-with_attributes x d = record { trace_id = d.trace_id; span_id = d.span_id; attributes = x; tracestate = d.tracestate; flags = d.flags }
+with_attributes x d = record d { attributes = x }
 
 abbrev pub with_tracestate : Place → SpanLink → SpanLink
-with_tracestate x d = record { trace_id = d.trace_id; span_id = d.span_id; attributes = d.attributes; tracestate = x; flags = d.flags }
+with_tracestate x d = record d { tracestate = x }
 
 abbrev pub with_flags : ℕ → SpanLink → SpanLink
-with_flags x d = record { trace_id = d.trace_id; span_id = d.span_id; attributes = d.attributes; tracestate = d.tracestate; flags = x }
+with_flags x d = record d { flags = x }
 
 module _ (input : List ℕ) (room : Room) where
   -- what the key k holds, put into the link
@@ -41,17 +42,9 @@ module _ (input : List ℕ) (room : Room) where
   abbrev pub link_field : SpanLink → Read SpanLink
   link_field d = placed (item_of (up_to 0xff) input Link) >>= λ k. link_at k d
 
-  -- a record is taken before its header is read, and written when all its fields are
   abbrev pub link : Unit {0} → Read (Unit {0})
-  link u =
-      reserve_in links_part Link room >>= λ index.
-      placed (item_of is_map input Link) >>= λ n.
-      repeat link_field n blank_link >>= λ d.
-      write_in links_part index d
+  link = record_in input room Link links_part link_field blank_link (λ at d. give d)
 
   -- All links of a span, as a range of the pool. Not an `abbrev`: what stands above need not look inside.
   unfoldable pub links : Read Range
-  links s =
-      (placed (item_of is_array input Span) >>= λ n.
-      repeat link n tt >>= λ u.
-      give (range_of (length s.pools.links) n)) s
+  links = records_in input Span links_part link

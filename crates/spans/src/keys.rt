@@ -2,7 +2,8 @@
 // SPDX-License-Identifier: Apache-2.0
 // Changed: carried over to Rattle.
 
-// The keys of a span, of a link and of an event.
+// The keys of a span, of a link and of an event. Constants, since each is named once more only, where
+// its field is read; an enum would name each a third time, to tell it by its number.
 pub mod span_key {
     pub const SERVICE: u8 = 1;
 

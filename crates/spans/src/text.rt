@@ -3,39 +3,27 @@
 // Changed: the record goes into a pool, and its texts are places.
 
 // The text fields of a span.
-ghost use Rattle.std.specs.Prelude.{◌≡◌};
-ghost use Rattle.spans.specs.Span.{is_text, with_text};
+ghost use Rattle.std.specs.Prelude.{◌≡◌, is_some};
+ghost use Rattle.std.specs.Borrow.{sem};
+ghost use Rattle.spans.specs.Span.{is_text};
+ghost use Rattle.spans.specs.Lending.{LendsText};
 
 use crate::keys::span_key;
 use span::{Place, Span};
 
-// Whether the key's field is a text.
-pub fn is_text(key: u8) -> bool
-    ensures { result ≡ is_text key }
-{
-    matches!(
-        key,
-        span_key::SERVICE
-            | span_key::NAME
-            | span_key::RESOURCE
-            | span_key::TYPE
-            | span_key::ENV
-            | span_key::VERSION
-            | span_key::COMPONENT
-    )
-}
-
-// The text of a key; any other than the first six is the component's.
-pub fn set_text(span: &mut Span, key: u8, text: Place)
-    ensures { span.new ≡ with_text key text span.old }
+// The text field of the key, if it has one.
+pub fn text_field(span: &mut Span, key: u8) -> Option<&mut Place>
+    ensures* lends { sem 𝓛 (LendsText span.entry key result) }
+    ensures has { is_some result ≡ is_text key }
 {
     match key {
-        span_key::SERVICE => span.service = text,
-        span_key::NAME => span.name = text,
-        span_key::RESOURCE => span.resource = text,
-        span_key::TYPE => span.span_type = text,
-        span_key::ENV => span.env = text,
-        span_key::VERSION => span.version = text,
-        _ => span.component = text,
+        span_key::SERVICE => Some(&mut span.service),
+        span_key::NAME => Some(&mut span.name),
+        span_key::RESOURCE => Some(&mut span.resource),
+        span_key::TYPE => Some(&mut span.span_type),
+        span_key::ENV => Some(&mut span.env),
+        span_key::VERSION => Some(&mut span.version),
+        span_key::COMPONENT => Some(&mut span.component),
+        _ => None,
     }
 }

@@ -1,11 +1,11 @@
 -- UTF-8 as a fold of a step over the bytes. Assumes nothing.
-use Rattle.std.specs.Prelude.{ℕ, Bool, true, false, cond, List, [], ◌∷◌, nat_le}
+use Rattle.std.specs.Prelude.{ℕ, Bool, true, false, List, [], ◌∷◌, nat_le, if◌then◌else◌}
 use Rattle.utf8.specs.declared.State.{State}
 use Rattle.utf8.specs.declared.State.TheVariants.{Start, One, Two, Three, E0, Ed, F0, F4, Bad}
 
 -- s where the byte is from lo to hi, else t
 abbrev pub within : ℕ → ℕ → ℕ → State → State → State
-within lo hi b s t = cond (nat_le lo b) (cond (nat_le b hi) s t) t
+within lo hi b s t = if nat_le lo b then (if nat_le b hi then s else t) else t
 
 abbrev pub stepped : State → ℕ → State
 stepped Start b =
@@ -28,14 +28,7 @@ stepped Bad b = Bad
 
 abbrev pub accepts : State → Bool
 accepts Start = true
-accepts One = false
-accepts Two = false
-accepts Three = false
-accepts E0 = false
-accepts Ed = false
-accepts F0 = false
-accepts F4 = false
-accepts Bad = false
+accepts s = false
 
 -- the same, shut: a proof opens one step at a time
 unfoldable pub next : State → ℕ → State

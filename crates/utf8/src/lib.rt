@@ -1,11 +1,11 @@
 // Well-formed UTF-8 (Unicode, Table 3-7), as a machine that takes one byte at a time.
 #![tactic(auto)]
 
-ghost use Rattle.std.specs.Prelude.{◌≡◌};
+ghost use Rattle.std.specs.Prelude.{◌≡◌, true};
 ghost use Rattle.utf8.specs.Machine.{stepped, accepts, well_formed};
 ghost use Rattle.utf8.specs.Table.{AcceptsTable, AcceptsText};
 
-#[derive(Clone, Copy)]
+#[derive(Clone, Copy, PartialEq, Eq, Debug)]
 pub enum State {
     Start,
     One,
@@ -19,10 +19,10 @@ pub enum State {
 }
 
 impl State {
-    pub fn step(&mut self, b: u8)
-        ensures { self.new ≡ stepped self.old b }
+    pub fn step(&mut self, byte: u8)
+        ensures { self.new ≡ stepped self.old byte }
     {
-        *self = match (*self, b) {
+        *self = match (*self, byte) {
             (State::Start, 0x00..=0x7f) => State::Start,
             (State::Start, 0xc2..=0xdf) => State::One,
             (State::Start, 0xe0) => State::E0,
@@ -45,22 +45,24 @@ impl State {
     pub fn whole(self) -> bool
         ensures { result ≡ accepts self }
     {
-        matches!(self, State::Start)
+        self == State::Start
     }
 }
 
-pub fn is_utf8(s: &[u8]) -> bool
-    ensures { result ≡ well_formed s.now }
+#[tactic(auto, unfolding(crate::specs::Machine::next))]
+pub fn is_utf8(bytes: &[u8]) -> bool
+    ensures { result ≡ well_formed bytes.now }
 {
     let mut state = State::Start;
-    for b in s {
-        state.step(*b);
+    for byte in bytes {
+        state.step(*byte);
     }
     state.whole()
 }
 
 // The fold accepts the sequences of Table 3-7, and no others; and those are the texts of `str`.
 pub fn table_stands() -> bool
+    ensures answer { result ≡ true }
     ensures table { AcceptsTable }
     ensures text { AcceptsText }
 {

@@ -22,34 +22,34 @@ pub record Grows {A : Type 0} (X : Form A) : Type 0 where
 
 -- what fits behind a writing fits before it
 pub fits-before : {rooms : Rooms} {p q : Standing} → Grown p q → Fits rooms q → Fits rooms p
-fits-before g f = record { texts = omega arith; chunks = omega arith; spans = omega arith; links = omega arith; events = omega arith; nodes = omega arith }
+fits-before g f = grind arith
 
 pub stays : {p : Standing} → Grown p p
-stays = record { texts = omega arith; chunks = omega arith; spans = omega arith; links = omega arith; events = omega arith; nodes = omega arith }
+stays = grind arith
 
 elsewhere : (l : List ℕ) (p : Standing) → Grown p (at l p)
-elsewhere l p = record { texts = omega arith; chunks = omega arith; spans = omega arith; links = omega arith; events = omega arith; nodes = omega arith }
+elsewhere l p = grind arith
 
 pub then : {p m q : Standing} → Grown p m → Grown m q → Grown p q
-then g h = record { texts = omega arith; chunks = omega arith; spans = omega arith; links = omega arith; events = omega arith; nodes = omega arith }
+then g h = grind arith
 
 noted : (t : Text) (p : Standing) → Grown p (noting t p)
-noted t p = record { texts = simp length-append (omega arith); chunks = omega arith; spans = omega arith; links = omega arith; events = omega arith; nodes = omega arith }
+noted t p = grind (arith, length-append)
 
-counted-chunk : (p : Standing) → Grown p (count_chunk p)
-counted-chunk p = record { texts = omega arith; chunks = omega arith; spans = omega arith; links = omega arith; events = omega arith; nodes = omega arith }
+counted_chunk : (p : Standing) → Grown p (count_chunk p)
+counted_chunk p = grind arith
 
-counted-span : (p : Standing) → Grown p (count_span p)
-counted-span p = record { texts = omega arith; chunks = omega arith; spans = omega arith; links = omega arith; events = omega arith; nodes = omega arith }
+counted_span : (p : Standing) → Grown p (count_span p)
+counted_span p = grind arith
 
-counted-link : (p : Standing) → Grown p (count_link p)
-counted-link p = record { texts = omega arith; chunks = omega arith; spans = omega arith; links = omega arith; events = omega arith; nodes = omega arith }
+counted_link : (p : Standing) → Grown p (count_link p)
+counted_link p = grind arith
 
-counted-event : (p : Standing) → Grown p (count_event p)
-counted-event p = record { texts = omega arith; chunks = omega arith; spans = omega arith; links = omega arith; events = omega arith; nodes = omega arith }
+counted_event : (p : Standing) → Grown p (count_event p)
+counted_event p = grind arith
 
-counted-node : (p : Standing) → Grown p (count_node p)
-counted-node p = record { texts = omega arith; chunks = omega arith; spans = omega arith; links = omega arith; events = omega arith; nodes = omega arith }
+counted_node : (p : Standing) → Grown p (count_node p)
+counted_node p = grind arith
 
 head-grown : {x : msgpack.Item} {p q : Standing} → HeadAt x p q → Grown p q
 head-grown (head {p = p} {q = l} h) = elsewhere l p
@@ -149,8 +149,8 @@ module _ {X : Bool → Form Item} (hx : (keyed : Bool) → Grows (X keyed)) wher
   value_of (ValueOf.map h) = group-grown (hx true) h
 
   item_of : {keyed : Bool} {x : Item} {p q : Standing} → ItemOf X keyed x p q → Grown p q
-  item_of (member {p = p} h k) = then (counted-node p) (then (natural-grown h) (value_of k))
-  item_of (entry {p = p} h k v) = then (counted-node p) (then (text-grown h) (then (natural-grown k) (value_of v)))
+  item_of (member {p = p} h k) = then (counted_node p) (then (natural-grown h) (value_of k))
+  item_of (entry {p = p} h k v) = then (counted_node p) (then (text-grown h) (then (natural-grown k) (value_of v)))
 
 pub item-grows : (d : ℕ) (keyed : Bool) → Grows (ItemAt d keyed)
 unfolding ItemAt
@@ -169,7 +169,7 @@ link-field (LinkFieldAt.flags h k) = then (natural-grown h) (natural-grows.grows
 link-field (LinkFieldAt.other h u k) = then (natural-grown h) ((skipped-grows 64).grows k)
 
 link-grown : {v : Link} {p q : Standing} → LinkAt v p q → Grown p q
-link-grown (link {p = p} h) = then (counted-link p) (map-grown (record { grows = link-field }) h)
+link-grown (link {p = p} h) = then (counted_link p) (map-grown (record { grows = link-field }) h)
 
 pub link-grows : Grows LinkAt
 link-grows = record { grows = link-grown }
@@ -181,7 +181,7 @@ event-field (EventFieldAt.attributes h k) = then (natural-grown h) (attributes-g
 event-field (EventFieldAt.other h u k) = then (natural-grown h) ((skipped-grows 64).grows k)
 
 event-grown : {v : Event} {p q : Standing} → EventAt v p q → Grown p q
-event-grown (event {p = p} h) = then (counted-event p) (map-grown (record { grows = event-field }) h)
+event-grown (event {p = p} h) = then (counted_event p) (map-grown (record { grows = event-field }) h)
 
 pub event-grows : Grows EventAt
 event-grows = record { grows = event-grown }
@@ -206,7 +206,7 @@ span-field (SpanFieldAt.kind h k) = then (natural-grown h) (natural-grows.grows 
 span-field (SpanFieldAt.other h u k) = then (natural-grown h) ((skipped-grows 64).grows k)
 
 span-grown : {v : Span} {p q : Standing} → SpanAt v p q → Grown p q
-span-grown (span {p = p} h e0 e1) = then (counted-span p) (map-grown (record { grows = span-field }) h)
+span-grown (span {p = p} h e0 e1) = then (counted_span p) (map-grown (record { grows = span-field }) h)
 
 pub span-grows : Grows SpanAt
 span-grows = record { grows = span-grown }
@@ -222,7 +222,7 @@ chunk-field (ChunkFieldAt.mechanism h k) = then (natural-grown h) (natural-grows
 chunk-field (ChunkFieldAt.other h u k) = then (natural-grown h) ((skipped-grows 64).grows k)
 
 chunk-grown : {v : Chunk} {p q : Standing} → ChunkAt v p q → Grown p q
-chunk-grown (chunk {p = p} h e0 e1) = then (counted-chunk p) (map-grown (record { grows = chunk-field }) h)
+chunk-grown (chunk {p = p} h e0 e1) = then (counted_chunk p) (map-grown (record { grows = chunk-field }) h)
 
 pub chunk-grows : Grows ChunkAt
 chunk-grows = record { grows = chunk-grown }

@@ -17,33 +17,33 @@ pub record Standing : Type 0 where
 
 -- p with other bytes, and with more of them in front
 abbrev pub at : List ℕ → Standing → Standing
-at l p = record { bytes = l; texts = p.texts; used = p.used }
+at l p = record p { bytes = l }
 
 abbrev pub before : List ℕ → Standing → Standing
 before l p = at (l ++ p.bytes) p
 
 -- p once the text t has taken the next number
 abbrev pub noting : Text → Standing → Standing
-noting t p = record { bytes = p.bytes; texts = p.texts ++ t ∷ []; used = p.used }
+noting t p = record p { texts = p.texts ++ t ∷ [] }
 
 abbrev pub with_used : Used → Standing → Standing
-with_used u p = record { bytes = p.bytes; texts = p.texts; used = u }
+with_used u p = record p { used = u }
 
 -- p with one record more
 abbrev pub count_chunk : Standing → Standing
-count_chunk p = let u = p.used in with_used (record { chunks = suc u.chunks; spans = u.spans; links = u.links; events = u.events; nodes = u.nodes }) p
+count_chunk p = with_used (record p.used { chunks = suc p.used.chunks }) p
 
 abbrev pub count_span : Standing → Standing
-count_span p = let u = p.used in with_used (record { chunks = u.chunks; spans = suc u.spans; links = u.links; events = u.events; nodes = u.nodes }) p
+count_span p = with_used (record p.used { spans = suc p.used.spans }) p
 
 abbrev pub count_link : Standing → Standing
-count_link p = let u = p.used in with_used (record { chunks = u.chunks; spans = u.spans; links = suc u.links; events = u.events; nodes = u.nodes }) p
+count_link p = with_used (record p.used { links = suc p.used.links }) p
 
 abbrev pub count_event : Standing → Standing
-count_event p = let u = p.used in with_used (record { chunks = u.chunks; spans = u.spans; links = u.links; events = suc u.events; nodes = u.nodes }) p
+count_event p = with_used (record p.used { events = suc p.used.events }) p
 
 abbrev pub count_node : Standing → Standing
-count_node p = let u = p.used in with_used (record { chunks = u.chunks; spans = u.spans; links = u.links; events = u.events; nodes = suc u.nodes }) p
+count_node p = with_used (record p.used { nodes = suc p.used.nodes }) p
 
 -- before the first byte: the empty text has the number 0
 abbrev pub start_of : List ℕ → Standing

@@ -1,11 +1,15 @@
+use Rattle.std.proofs.Common.{refl}
 use Rattle.meaning.proofs.Sharp.{stops-once, shows-once, not-refused, not-accepted, empty-accepted}
 use Rattle.meaning.proofs.promise_excludes.Goals as goal
 
 pub returns : goal.returns
 returns c = record {
-  refuse = not-refused;
-  refuse_all = empty-accepted;
-  stop_elsewhere = λ input room room' f f' held held' a b. stops-once a b;
-  show_another = λ input room room' f f' held held' a b. shows-once a b;
-  accept = not-accepted;
+  answer = refl;
+  excludes = record {
+    refuse = not-refused;
+    refuse_all = empty-accepted;
+    stop_elsewhere = λ input room room' f f' held held' a b. stops-once a b;
+    show_another = λ input room room' f f' held held' a b. shows-once a b;
+    accept = not-accepted;
+  };
 }

@@ -1,9 +1,9 @@
-use Rattle.utf8.proofs.Tables.{to-fold, from-fold}
-use Rattle.utf8.proofs.Texts.{accepts-text}
+use Rattle.utf8.proofs.Tables.{to_fold, from_fold}
+use Rattle.utf8.proofs.Texts.{accepts_text}
 use Rattle.utf8.proofs.table_stands.Goals as goal
 
-pub returns : goal.returns
-returns c = record {
-  table = λ bs. (from-fold bs, to-fold);
-  text = accepts-text;
-}
+pub returns-clause-table : goal.returns-clause-table
+returns-clause-table c bs = (from_fold bs, to_fold)
+
+pub returns-clause-text : goal.returns-clause-text
+returns-clause-text c = accepts_text

@@ -1,5 +1,5 @@
 use Rattle.wire.proofs.Stands.{independent}
 use Rattle.wire.proofs.format_stands.Goals as goal
 
-pub returns : goal.returns
-returns c = independent
+pub returns-clause-independent : goal.returns-clause-independent
+returns-clause-independent c = independent

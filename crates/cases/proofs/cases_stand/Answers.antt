@@ -1,5 +1,0 @@
-use Rattle.cases.proofs.Cases.{stand}
-use Rattle.cases.proofs.cases_stand.Goals as goal
-
-pub returns : goal.returns
-returns c = stand
