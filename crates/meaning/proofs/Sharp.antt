@@ -1,6 +1,6 @@
 -- The promise leaves one answer. Assumes nothing.
-use Rattle.std.proofs.Common.{◌≡◌, ℕ, List, [], ◌∷◌, map, length, Ok, Err, sym, refl, ap, ◌∙◌, arith, length-drop}
-use mathlib.Core.Option.{some}
+use Rattle.std.proofs.Common.{◌≡◌, ◌≢◌, ℕ, List, [], ◌∷◌, map, length, Ok, Err, sym, refl, ap, ◌∙◌, arith, length-drop}
+use mathlib.Core.Option.{some, some-injective}
 use Rattle.msgpack.specs.Formats.{positive_fixint, fixmap, fixarray}
 use Rattle.refusal.specs.declared.Refusal.{Refusal}
 use Rattle.span.specs.State.{Held}
@@ -38,6 +38,10 @@ module _ {input : List ℕ} {room room' : Room} {f f' : ReadPayload} {held held'
 -- none may refuse an input that has a writing for which there is room
 pub not-refused : (input : List ℕ) (room : Room) (v : Payload) (q : Standing) (e : Refusal) (held : Held) → Allowed input room → PayloadAt v (start_of input) q → Fits (rooms_of room) q → ¬ Decodes input room (Err e) held
 not-refused input room v q e held a h f d = d.none_fits a v q h f
+
+-- nor show the empty payload where another is written
+pub shows_written : (input : List ℕ) (room : Room) (v : Payload) (q : Standing) (f : ReadPayload) (held : Held) → PayloadAt v (start_of input) q → v ≢ no_payload → Decodes input room (Ok f) held → shown_payload input held.pools f.payload ≢ some no_payload
+shows_written input room v q f held h other a e = other ((a.only v q h).0 ∙ some-injective _ _ (sym a.shows ∙ e))
 
 -- nor accept one that has none
 pub not-accepted : (input : List ℕ) (room : Room) (f : ReadPayload) (held : Held) → ((v : Payload) (q : Standing) → PayloadAt v (start_of input) q → ⊥) → ¬ Decodes input room (Ok f) held

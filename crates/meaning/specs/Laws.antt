@@ -1,10 +1,11 @@
 -- What follows from the promise and of the format. Assumes nothing.
 use Rattle.std.specs.Prelude.{◌≡◌, ℕ, ◌≢◌, List, [], ◌∷◌, ◌++◌, Ok, Err}
+use Rattle.std.proofs.Math.Option.{some}
 use Rattle.refusal.specs.declared.Refusal.{Refusal}
 use Rattle.span.specs.State.{Held}
 use Rattle.decode.specs.Reader.{Room}
 use Rattle.msgpack_decoder.specs.declared.whole.ReadPayload.{ReadPayload}
-use Rattle.wire.specs.Payload.{Payload}
+use Rattle.wire.specs.Payload.{Payload, no_payload}
 use Rattle.wire.specs.Standing.{Standing, start_of, Fits}
 use Rattle.wire.specs.Records.{PayloadAt}
 use Rattle.meaning.specs.Standings.{rooms_of}
@@ -34,5 +35,7 @@ pub record Excludes : Type 0 where
   pub stop_elsewhere : (input : List ℕ) (room room' : Room) (f f' : ReadPayload) (held held' : Held) → Decodes input room (Ok f) held → Decodes input room' (Ok f') held' → f.read ≡ f'.read
   -- show another payload
   pub show_another : (input : List ℕ) (room room' : Room) (f f' : ReadPayload) (held held' : Held) → Decodes input room (Ok f) held → Decodes input room' (Ok f') held' → shown_payload input held.pools f.payload ≡ shown_payload input held'.pools f'.payload
+  -- show the empty payload where another is written, so show it always
+  pub show_empty : (input : List ℕ) (room : Room) (v : Payload) (q : Standing) (f : ReadPayload) (held : Held) → PayloadAt v (start_of input) q → v ≢ no_payload → Decodes input room (Ok f) held → shown_payload input held.pools f.payload ≢ some no_payload
   -- accept what begins with no writing
   pub accept : (input : List ℕ) (room : Room) (f : ReadPayload) (held : Held) → ((v : Payload) (q : Standing) → PayloadAt v (start_of input) q → ⊥) → ¬ Decodes input room (Ok f) held

@@ -1,5 +1,5 @@
 use Rattle.std.proofs.Common.{refl}
-use Rattle.meaning.proofs.Sharp.{stops-once, shows-once, not-refused, not-accepted, empty-accepted}
+use Rattle.meaning.proofs.Sharp.{stops-once, shows-once, shows_written, not-refused, not-accepted, empty-accepted}
 use Rattle.meaning.proofs.promise_excludes.Goals as goal
 
 pub returns : goal.returns
@@ -10,6 +10,7 @@ returns c = record {
     refuse_all = empty-accepted;
     stop_elsewhere = λ input room room' f f' held held' a b. stops-once a b;
     show_another = λ input room room' f f' held held' a b. shows-once a b;
+    show_empty = shows_written;
     accept = not-accepted;
   };
 }
