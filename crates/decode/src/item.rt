@@ -53,6 +53,7 @@ impl<'a> Buffer<'a> {
     }
 
     // What `pick` makes of the item here, and the buffer moves over its head; InvalidFormat, and it stays, if nothing.
+    // That the bytes stay is said apart: `ran` speaks of a `pick` that is a function of the item.
     pub(crate) fn take<T, F: FnOnce(Item) -> Option<T>>(
         &mut self,
         layer: Layer,

@@ -31,7 +31,7 @@ use Rattle.meaning.proofs.Fills.{moving-inside, event-field, event-blank, event-
 use Rattle.meaning.proofs.Drafts.{Draft, Drafted, or-true, keys, one_field, one_same, one-other}
 use Rattle.meaning.proofs.Rows.{Opened, Shape, reads-record, Listed, reads-range}
 
--- an event has no flags
+-- an event has no field that must be there
 abbrev event_draft : Draft SpanEvent SpanEvent EventField
 event_draft = record { get = λ d. d; one = λ d. true; two = λ d. true; is_one = λ f. false; is-two = λ f. false }
 

@@ -32,7 +32,7 @@ use Rattle.meaning.proofs.Fills.{link-field, link-blank, link-trace_id, link-spa
 use Rattle.meaning.proofs.Drafts.{Draft, Drafted, or-true, keys, one_field, one_same, one-other}
 use Rattle.meaning.proofs.Rows.{Opened, Shape, reads-record, Listed, reads-range}
 
--- a link has no flags
+-- a link has no field that must be there
 abbrev link_draft : Draft SpanLink SpanLink LinkField
 link_draft = record { get = λ d. d; one = λ d. true; two = λ d. true; is_one = λ f. false; is-two = λ f. false }
 

@@ -95,7 +95,8 @@ pub fn read_summary(
     Ok(Summary::of(&found, records, table))
 }
 
-// The same, and as the definition of reading computes it: `from_slice` says that, and `read` recites no definition.
+// The same, and as the definition of reading computes it: `from_slice` says that of every answer, `read` of refusals
+// alone.
 #[tactic(auto, using(crate::proofs::Answers::counted))]
 pub fn answer_in(
     input: &[u8],

@@ -67,7 +67,8 @@ fn read_literal(buf: &mut Buffer<'_>, table: &mut StringTable<'_>) -> Result<Pla
     Ok(text)
 }
 
-// The text that has the number that stands here, in one of the five unsigned formats.
+// The text that has the number that stands here, in one of the five unsigned formats. The table is only looked at, so its
+// clauses are not `RanTexts`.
 fn read_number(buf: &mut Buffer<'_>, table: &StringTable<'_>) -> Result<Place, Refusal>
     ensures ran { (result, strings_of buf.new table.now) ≡ by_number (bytes_of buf.old) (strings_of buf.old table.now) }
     ensures kept { bytes_of buf.new ≡ bytes_of buf.old }

@@ -1,3 +1,4 @@
+-- The check does not find this alone.
 use Rattle.std.proofs.Common.{rules, arith}
 use Rattle.check_payload.proofs.Enough.{enough_taken}
 use Rattle.check_payload.proofs.answer_from.Goals as goal

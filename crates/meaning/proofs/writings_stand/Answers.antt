@@ -1,7 +1,10 @@
-use Rattle.std.proofs.Common.{refl}
+-- The check does not find these alone.
 use Rattle.meaning.proofs.Unique.{unique}
 use Rattle.meaning.proofs.Fronts.{front-free}
 use Rattle.meaning.proofs.writings_stand.Goals as goal
 
-pub returns : goal.returns
-returns c = record { answer = refl; unique = λ input v v' q q'. unique input q q' v v'; front = front-free }
+pub returns-clause-unique : goal.returns-clause-unique
+returns-clause-unique c = λ input v v' q q'. unique input q q' v v'
+
+pub returns-clause-front : goal.returns-clause-front
+returns-clause-front c = front-free

@@ -1,8 +1,17 @@
-use Rattle.std.proofs.Common.{refl}
-use Rattle.showing.proofs.Values.{text-shown, value-shown, key-shown}
-use Rattle.showing.proofs.Answered.{text-answered, value-answered}
+-- The check does not find these alone.
+use Rattle.showing.proofs.Values.{value-shown}
+use Rattle.showing.proofs.Answered.{value-answered}
 use Rattle.showing.proofs.Walks.{walk, end}
 use Rattle.showing.proofs.showing_stands.Goals as goal
 
-pub returns : goal.returns
-returns c = record { answer = refl; text = text-shown; within = text-answered; value = value-shown; answered = value-answered; key = key-shown; walk = walk; end = end }
+pub returns-clause-value : goal.returns-clause-value
+returns-clause-value c = value-shown
+
+pub returns-clause-answered : goal.returns-clause-answered
+returns-clause-answered c = value-answered
+
+pub returns-clause-walk : goal.returns-clause-walk
+returns-clause-walk c = walk
+
+pub returns-clause-end : goal.returns-clause-end
+returns-clause-end c = end

@@ -1,3 +1,4 @@
+-- The check does not find these alone.
 use Rattle.std.proofs.Common.{rules, Ok}
 use Rattle.decode.specs.State.{room_of}
 use Rattle.summary.proofs.Answers.{counted}

@@ -1,3 +1,4 @@
+-- The check does not find these alone.
 use Rattle.utf8.proofs.Tables.{to_fold, from_fold}
 use Rattle.utf8.proofs.Texts.{accepts_text}
 use Rattle.utf8.proofs.table_stands.Goals as goal

@@ -1,3 +1,4 @@
+-- The check does not find this alone.
 use Rattle.wire.proofs.Stands.{independent}
 use Rattle.wire.proofs.format_stands.Goals as goal
 

@@ -1,3 +1,4 @@
+-- The check does not find these alone.
 use Rattle.std.proofs.lemmas.Result.{err_from_is_err_and}
 use Rattle.decode.proofs.Turns.{turn_more, turn_refused}
 use Rattle.spans.proofs.fields.read_fields.Goals as goal

@@ -1,3 +1,4 @@
+-- The check does not find this alone.
 use Rattle.std.proofs.Common.{refl, ◌∙◌}
 use Rattle.refusal.specs.Runs.{refusal_at}
 use Rattle.refusal.specs.declared.Kind.TheVariants.{PoolFull}

@@ -1,3 +1,4 @@
+-- The check does not find these alone.
 use Rattle.std.proofs.lemmas.Result.{err_from_is_err_and}
 use Rattle.spans.specs.Records.{record_in}
 use Rattle.decode.proofs.Turns.{turn_more, turn_refused}

@@ -1,3 +1,4 @@
+-- The check does not find this alone.
 use Rattle.std.proofs.Common.{append_assoc}
 use Rattle.std.proofs.Output.{has_written_of_eq}
 use Rattle.summary.proofs.SummaryDisplay.fmt.Goals as goal

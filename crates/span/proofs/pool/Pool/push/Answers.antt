@@ -1,3 +1,4 @@
+-- The check does not find this alone.
 use Rattle.std.proofs.Common.{arith, length-set}
 use Rattle.span.proofs.Lists.{push_rest}
 use Rattle.span.proofs.pool.Pool.push.Goals as goal

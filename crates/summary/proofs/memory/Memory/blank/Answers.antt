@@ -1,3 +1,4 @@
+-- The check does not find this alone.
 use Rattle.std.proofs.Common.{replicate}
 use Rattle.summary.proofs.memory.Memory.blank.Goals as goal
 
