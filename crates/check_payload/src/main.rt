@@ -4,8 +4,10 @@
 ghost use Rattle.std.specs.Prelude.{IfOk, IfSome};
 ghost use Rattle.check_payload.specs.Program.{ProgramAnswers};
 
+mod fill;
+
+use crate::fill::fill;
 use refusal::{Kind, Layer, Refusal};
-use std::alloc::Global;
 use std::io;
 use std::io::Read;
 use summary::{Line, Memory, Summary, read_summary};
@@ -23,16 +25,17 @@ fn answer(input: &[u8]) -> Result<Summary, Refusal>
     read_summary(input, &mut records, &mut table)
 }
 
-// The answer to all bytes of a reader. One more than may be read is enough to tell what is too long.
-fn answer_from<R: Read + Drop>(source: R, heap: Global) -> io::Result<Line>
+// The answer to all bytes of a reader. One more than may be read is enough to tell what is too long. They lie on the
+// stack: the program has no heap that could be refused.
+fn answer_from<R: Read + Drop>(mut source: R) -> io::Result<Line>
     ensures { IfOk result (λ line. IfSome (R.remaining source) (λ bytes. ProgramAnswers bytes line.0)) }
 {
-    let mut input = Vec::new(heap);
-    source.take(MOST_INPUT as u64 + 1).read_to_end(&mut input)?;
-    Ok(Line(answer(&input)))
+    let mut bytes = [0; MOST_INPUT + 1];
+    let used = fill(&mut source, &mut bytes)?;
+    Ok(Line(answer(&bytes[..used])))
 }
 
 fn main(rt: HostRuntime) -> io::Result<()> {
-    let line = answer_from(rt.stdin(), rt.alloc())?;
+    let line = answer_from(rt.stdin())?;
     println!(rt; "{line}")
 }

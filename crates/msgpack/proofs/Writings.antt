@@ -1,11 +1,13 @@
 -- The bytes of a head: there is a marker, and what follows them is no matter to them. Assumes nothing.
-use Rattle.std.proofs.Common.{◌≡◌, ℕ, ◌+◌, ◌<◌, List, [], ◌∷◌, ◌++◌, length, Some, None, Option, sym, refl, ap, ◌∙◌, append_assoc, arith, length-append}
+use Rattle.std.proofs.Common.{◌≡◌, ℕ, ◌+◌, ◌<◌, List, [], ◌∷◌, ◌++◌, length, Some, None, Option, sym, refl, ap, subst, ◌∙◌, append_assoc, arith, length-append}
 use Rattle.msgpack.specs.declared.Item.{Item}
 use Rattle.msgpack.specs.Formats.{Head, Spelt, positive_fixint, fixmap, fixarray, fixstr, nil, false_format, true_format, bin8, bin16, bin32, ext8, ext16, ext32, float32, float64, uint8, uint16, uint32, uint64, int8, int16, int32, int64, fixext1, fixext2, fixext4, fixext8, fixext16, str8, str16, str32, array16, array32, map16, map32, negative_fixint}
 use Rattle.std.specs.Prelude.{IfSome}
 use Rattle.std.specs.Borrow.{Bor}
 use Rattle.std.specs.Option.{option_map}
 use Rattle.msgpack.specs.Items.{front, item_at}
+use Rattle.std.proofs.lemmas.Option.{some_pair_parts}
+use Rattle.msgpack.proofs.Complete.{complete}
 use Rattle.msgpack.proofs.Sound.{sound}
 
 pub record Writing (i : Item) (p q : List ℕ) : Type 0 where
@@ -75,6 +77,13 @@ writing (map16 s) = spelt 0xde s (λ p r. map16)
 writing (map32 s) = spelt 0xdf s (λ p r. map32)
 writing (negative_fixint {n} {q} h) = one (0xe0 + n) q (λ r. negative_fixint h)
 
+-- a head stays one when bytes are added behind
+pub extends : {i : Item} {p q : List ℕ} → Head i p q → (x : List ℕ) → Head i (p ++ x) (q ++ x)
+extends {i} {p} {q} h x =
+    let w = writing h in
+    let l : List ℕ = w.marker ∷ w.others in
+    subst (λ (b : List ℕ). Head i b (q ++ x)) (sym (ap (λ b. b ++ x) w.before ∙ append_assoc l q x)) (w.anywhere (q ++ x))
+
 -- what follows a head is shorter than what begins with it
 pub head-shorter : {i : Item} {p q : List ℕ} → Head i p q → length q < length p
 head-shorter {i} {p} {q} h =
@@ -83,7 +92,11 @@ head-shorter {i} {p} {q} h =
 pub shorter : {i : Item} {q : List ℕ} (p : List ℕ) → item_at p ≡ Some (i, q) → length q < length p
 shorter p e = head-shorter (sound p e)
 
--- the same of what a reader answers
+-- bytes begin with one head, and of one item
+pub unique : {i j : Item} {p q r : List ℕ} → Head i p q → Head j p r → (i ≡ j) × (q ≡ r)
+unique {i} {j} {p} {q} {r} h k = some_pair_parts i j q r (sym (complete h) ∙ complete k)
+
+-- `shorter` of what a reader answers
 pub read_shorter : (r : Option (Item × Bor (List ℕ))) (p : List ℕ) → option_map front r ≡ item_at p → IfSome r (λ s. length s.1.now < length p)
 read_shorter None p e = tt
 read_shorter (Some s) p e = shorter p (sym e)

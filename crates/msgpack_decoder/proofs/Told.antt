@@ -1,7 +1,5 @@
 -- What reading tells, from what its parts told. Assumes nothing.
-use Rattle.std.proofs.Common.{◌≡◌, ℕ, Bool, true, false, ◌&&◌, ltb, List, [], ◌∷◌, length, Ok, Err, Result, is_err, sym, refl, ap, ◌∙◌, arith, if◌then◌else◌}
-use borrow.Author.Tests.{clash}
-use Rattle.refusal.specs.Runs.{RanOn}
+use Rattle.std.proofs.Common.{◌≡◌, ℕ, Bool, true, false, ◌&&◌, ltb, List, [], ◌∷◌, length, Ok, Err, Result, refl, ap, ◌∙◌, arith, if◌then◌else◌}
 use Rattle.refusal.specs.declared.Refusal.{Refusal}
 use Rattle.span.specs.Blank.{no_place}
 use Rattle.span.specs.Held.{pushed}
@@ -11,7 +9,7 @@ use Rattle.span.specs.declared.types.TracerPayload.{TracerPayload}
 use Rattle.decode.specs.Reader.{State, Room}
 use Rattle.msgpack_decoder.specs.declared.whole.ReadPayload.{ReadPayload}
 use Rattle.msgpack_decoder.specs.Payload.{payload}
-use Rattle.msgpack_decoder.specs.Whole.{records_fit, pools_fit, limits, start, first_of, answered, ended, limited, decoded}
+use Rattle.msgpack_decoder.specs.Whole.{records_fit, pools_fit, limits, start, ended, limited, decoded}
 
 -- a table with room takes the empty text as number 0
 pub first_text : (n : ℕ) (x : Place) (l l' : List Place) → ltb 0 n ≡ true → x ≡ no_place → l ≡ [] → l' ≡ pushed n x l → l' ≡ no_place ∷ []
@@ -31,14 +29,9 @@ passed false false x y e = let z : ◌≡◌ {A = ℕ} 0 1 = cc in absurd (omega
 pub has_text : (n : ℕ) (R : Room) → Ok tt ≡ limits n R → ltb 0 R.texts ≡ true
 has_text n R e = first_true (ltb 0 R.texts) (records_fit R) (passed (ltb 16777216 n) (pools_fit R) _ _ e)
 
--- an answer stays as it is; a refusal leaves nothing, once all is blanked
-kept : (o : RanOn State TracerPayload) (r : Result ReadPayload Refusal) (k : Held) → (r, k) ≡ answered o → is_err r ≡ false → (r, k) ≡ ended o
-kept (Ok p, s) r k ran ok = ran
-kept (Err e, s) r k ran ok = absurd (clash (sym ok ∙ ap (λ (x : Result ReadPayload Refusal × Held). is_err x.0) ran))
-
-cleared : (o : RanOn State TracerPayload) (r : Result ReadPayload Refusal) (k n : Held) → (r, k) ≡ answered o → is_err r ≡ true → n ≡ nothing → (r, n) ≡ ended o
-cleared (Err e, s) r k n ran bad none = λ j. ((ran j).0, none j)
-cleared (Ok p, s) r k n ran bad none = absurd (clash (sym (ap (λ (x : Result ReadPayload Refusal × Held). is_err x.0) ran) ∙ bad))
+-- what is held where a reader stopped
+abbrev left : State → Held
+left s = record { texts = s.texts; pools = s.pools }
 
 -- the limits were tested on the room R₁, which is R₀
 module _ (input : List ℕ) (R₀ R₁ : Room) (room : R₁ ≡ R₀) where
@@ -46,14 +39,14 @@ module _ (input : List ℕ) (R₀ R₁ : Room) (room : R₁ ≡ R₀) where
   unfolding decoded
   told_limits h e is none = ap (λ m. (Err e, m)) none ∙ ap (limited input R₀) (is ∙ ap (limits (length input)) room)
 
-  -- and the payload was read from what was held then, with room for R₂
-  module _ (R₂ : Room) (h : Held) (is : Ok tt ≡ limits (length input) R₁) (same : R₂ ≡ R₀) (first : first_of h ≡ start) where
-    whole : ended (payload input R₂ (first_of h)) ≡ decoded input R₀
+  -- and the payload was read from the bytes i and the state s, with room for R₂
+  module _ (i : List ℕ) (R₂ : Room) (s : State) (is : Ok tt ≡ limits (length input) R₁) (bytes : i ≡ input) (same : R₂ ≡ R₀) (first : s ≡ start) where
+    whole : ended (payload i R₂ s) ≡ decoded input R₀
     unfolding decoded
-    whole = (λ j. ended (payload input (same j) (first j))) ∙ ap (limited input R₀) (is ∙ ap (limits (length input)) room)
+    whole = (λ j. ended (payload (bytes j) (same j) (first j))) ∙ ap (limited input R₀) (is ∙ ap (limits (length input)) room)
 
-    pub told_kept : (r : Result ReadPayload Refusal) (k : Held) → (r, k) ≡ answered (payload input R₂ (first_of h)) → is_err r ≡ false → (r, k) ≡ decoded input R₀
-    told_kept r k ran ok = kept (payload input R₂ (first_of h)) r k ran ok ∙ whole
+    pub told_accepted : (s' : State) (c : TracerPayload) (n : ℕ) (h : Held) → (Ok c, s') ≡ payload i R₂ s → n ≡ s'.at → h ≡ left s' → ◌≡◌ {A = Result ReadPayload Refusal × Held} (Ok (record { payload = c; read = n }), h) (decoded input R₀)
+    told_accepted s' c n h ran stop held = (λ j. (Ok (record { payload = c; read = stop j }), held j)) ∙ ap ended ran ∙ whole
 
-    pub told_cleared : (r : Result ReadPayload Refusal) (k n : Held) → (r, k) ≡ answered (payload input R₂ (first_of h)) → is_err r ≡ true → n ≡ nothing → (r, n) ≡ decoded input R₀
-    told_cleared r k n ran bad none = cleared (payload input R₂ (first_of h)) r k n ran bad none ∙ whole
+    pub told_refused : (h : Held) (s' : State) (e : Refusal) → (Err e, s') ≡ payload i R₂ s → h ≡ nothing → ◌≡◌ {A = Result ReadPayload Refusal × Held} (Err e, h) (decoded input R₀)
+    told_refused h s' e ran none = ap (λ m. (Err e, m)) none ∙ ap ended ran ∙ whole

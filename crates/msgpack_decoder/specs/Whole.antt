@@ -29,18 +29,9 @@ pools_fit room = nat_lt 0 room.texts && records_fit room
 abbrev pub limits : ℕ → Room → Result (Unit {0}) Refusal
 limits n room = if nat_lt 16777216 n then Err (refusal_at TooLong NoLayer 0) else if pools_fit room then Ok tt else Err (refusal_at BadPool NoLayer 0)
 
--- at the input's first byte, with what is held already
-abbrev pub first_of : Held → State
-first_of h = record { at = 0; texts = h.texts; pools = h.pools }
-
 -- as reading begins: the empty text has number 0
 abbrev pub start : State
 start = record { at = 0; texts = no_place ∷ []; pools = no_pools }
-
--- what a reading answers, and what it leaves
-abbrev pub answered : RanOn State TracerPayload → Result ReadPayload Refusal × Held
-answered (Ok p, s) = (Ok (record { payload = p; read = s.at }), record { texts = s.texts; pools = s.pools })
-answered (Err e, s) = (Err e, record { texts = s.texts; pools = s.pools })
 
 -- what is held at the end; a refusal leaves nothing
 abbrev pub ended : RanOn State TracerPayload → Result ReadPayload Refusal × Held

@@ -56,8 +56,6 @@ pub fn decode_payload(decoder: &mut Decoder) -> Result<TracerPayload, Refusal>
     let Some(chunks) = draft.chunks else {
         return Err(Refusal::new(Kind::InvalidFormat, Layer::Payload, at));
     };
-    Ok(TracerPayload {
-        chunks,
-        ..draft.payload
-    })
+    draft.payload.chunks = chunks;
+    Ok(draft.payload)
 }

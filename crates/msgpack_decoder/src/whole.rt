@@ -6,8 +6,7 @@
 ghost use Rattle.std.specs.Prelude.{◌≡◌, length};
 ghost use Rattle.span.specs.State.{most, rooms_of, held_of, nothing, memory_of, blank_behind};
 ghost use Rattle.decode.specs.State.{room_of};
-ghost use Rattle.msgpack_decoder.specs.Payload.{payload};
-ghost use Rattle.msgpack_decoder.specs.Whole.{records_fit, limits, first_of, answered, decoded, StoppedWithin};
+ghost use Rattle.msgpack_decoder.specs.Whole.{records_fit, limits, decoded, StoppedWithin};
 
 use crate::payload::decode_payload;
 use decode::{Buffer, Decoder};
@@ -59,28 +58,8 @@ fn blank_all(table: &mut StringTable<'_>, records: &mut Records<'_>)
     records.clear();
 }
 
-// Reads from the texts and records that are held on.
-fn read_on(
-    input: &[u8],
-    records: &mut Records<'_>,
-    table: &mut StringTable<'_>,
-) -> Result<ReadPayload, Refusal>
-    ensures ran { (result, held_of table.new records.new) ≡ answered (payload input.now (room_of table.old records.old) (first_of (held_of table.old records.old))) }
-    ensures room { room_of table.new records.new ≡ room_of table.old records.old }
-    ensures within { StoppedWithin input.now result }
-{
-    let mut buf = Buffer::new(input);
-    let mut decoder = Decoder {
-        buf: &mut buf,
-        table,
-        records,
-    };
-    let payload = decode_payload(&mut decoder)?;
-    let read = decoder.offset();
-    Ok(ReadPayload { payload, read })
-}
-
-// Blanks all, reads, and blanks all again if it refuses.
+// Blanks all, reads, and blanks all again if it refuses. No function stands between this and `decode_payload`: it would
+// copy the payload once more, which is felt on short inputs.
 pub fn from_slice(
     input: &[u8],
     records: &mut Records<'_>,
@@ -95,9 +74,20 @@ pub fn from_slice(
     test_limits(input, table, records)?;
     // number 0 is the empty text
     let _ = table.record(Place::blank());
-    let answer = read_on(input, records, table);
-    if answer.is_err() {
-        blank_all(table, records);
+    let mut buf = Buffer::new(input);
+    let mut decoder = Decoder {
+        buf: &mut buf,
+        table,
+        records,
+    };
+    match decode_payload(&mut decoder) {
+        Ok(payload) => Ok(ReadPayload {
+            payload,
+            read: buf.offset(),
+        }),
+        Err(refusal) => {
+            blank_all(table, records);
+            Err(refusal)
+        }
     }
-    answer
 }

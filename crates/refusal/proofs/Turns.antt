@@ -12,3 +12,11 @@ module _ {S C : Type 0} (step : C → ReadOn S C) where
 
   pub repeat-refused : {n i : ℕ} {c : C} {e : Refusal} {s t : S} {out : RanOn S C} → repeat step (n - i) c s ≡ out → i < n → (Err e, t) ≡ step c s → (Err e, t) ≡ out
   repeat-refused {n} {i} {c} {e} {s} inv h ran = ap (λ r. then r (repeat step (n - (i + 1)))) ran ∙ sym (more n i c s h) ∙ inv
+
+-- the same of a reader with parameters, p₀ as the loop began and p now
+module _ {P S C : Type 0} (step : P → C → ReadOn S C) {p₀ p : P} (same : p ≡ p₀) where
+  pub again_more : {n i : ℕ} {c d : C} {s t : S} {out : RanOn S C} → repeat (step p₀) (n - i) c s ≡ out → i < n → (Ok d, t) ≡ step p c s → repeat (step p₀) (n - (i + 1)) d t ≡ out
+  again_more {c = c} {s = s} inv h ran = repeat-more (step p₀) inv h (ran ∙ λ j. step (same j) c s)
+
+  pub again_refused : {n i : ℕ} {c : C} {e : Refusal} {s t : S} {out : RanOn S C} → repeat (step p₀) (n - i) c s ≡ out → i < n → (Err e, t) ≡ step p c s → (Err e, t) ≡ out
+  again_refused {c = c} {s = s} inv h ran = repeat-refused (step p₀) inv h (ran ∙ λ j. step (same j) c s)

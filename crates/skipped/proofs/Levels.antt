@@ -4,7 +4,7 @@ use Rattle.refusal.specs.Runs.{ReadOn, refuse, repeat}
 use Rattle.refusal.specs.declared.Kind.TheVariants.{TooDeep}
 use Rattle.refusal.specs.declared.Layer.TheVariants.{Skipped}
 use Rattle.refusal.specs.declared.Refusal.{Refusal}
-use Rattle.refusal.proofs.Turns.{repeat-more, repeat-refused}
+use Rattle.refusal.proofs.Turns.{again_more, again_refused}
 use Rattle.decode.specs.Texts.{Strings}
 use Rattle.skipped.specs.declared.Skipper.{Skipper}
 use Rattle.skipped.specs.Skip.{level, skip}
@@ -21,21 +21,28 @@ module _ (input : List ℕ) (most : ℕ) (noting : Bool) (start : ℕ) where
 
 -- members with so many levels below them, which a skipper steps over from a on
 module _ {n : ℕ} (depth : ℕ) (a : Skipper n) where
+  -- a step is given the bytes, the room for texts and where the value begins
+  abbrev given : List ℕ × ℕ × ℕ → Unit {0} → ReadOn Strings (Unit {0})
+  given p = skip p.0 p.1 (noting_of a) p.2 depth
+
+  abbrev known : Skipper n → List ℕ × ℕ × ℕ
+  known b = (input_of b, most_of b, b.start)
+
   abbrev member : Unit {0} → ReadOn Strings (Unit {0})
-  member = skip (input_of a) (most_of a) (noting_of a) a.start depth
+  member = given (known a)
 
   -- i of them so far: what is left to read at b gives what all of them give
   abbrev pub Left : ℕ → ℕ → Skipper n → Type 0
   Left count i b = Kept a b × (repeat member (count - i) tt (at_of b) ≡ repeat member count tt (at_of a))
 
-  same : {b : Skipper n} → Kept a b → (s : Strings) → skip (input_of b) (most_of b) (noting_of b) b.start depth tt s ≡ member tt s
-  same k s = λ j. skip (k.bytes j) (k.most j) (noting_of a) (k.start j) depth tt s
+  same : {b : Skipper n} → Kept a b → known b ≡ known a
+  same k = λ j. (k.bytes j, k.most j, k.start j)
 
   kept_also : {b c : Skipper n} → Kept a b → Kept b c → Kept a c
   kept_also k m = record { bytes = m.bytes ∙ k.bytes; most = m.most ∙ k.most; start = m.start ∙ k.start; buf = m.buf ∙ k.buf; table = m.table ∙ k.table }
 
   pub turn_more : {count i : ℕ} {b c : Skipper n} → Left count i b → i < count → Did (λ input most noting start. skip input most noting start depth tt) b c (Ok tt) → Left count (i + 1) c
-  turn_more {b = b} inv h did = (kept_also inv.0 did.kept, repeat-more member inv.1 h (did.ran ∙ same inv.0 (at_of b)))
+  turn_more inv h did = (kept_also inv.0 did.kept, again_more given (same inv.0) inv.1 h did.ran)
 
   pub turn_refused : {count i : ℕ} {b c : Skipper n} {e : Refusal} → Left count i b → i < count → Did (λ input most noting start. skip input most noting start depth tt) b c (Err e) → Did (λ input most noting start. repeat (skip input most noting start depth) count tt) a c (Err e)
-  turn_refused {b = b} inv h did = record { ran = repeat-refused member inv.1 h (did.ran ∙ same inv.0 (at_of b)); kept = kept_also inv.0 did.kept }
+  turn_refused inv h did = record { ran = again_refused given (same inv.0) inv.1 h did.ran; kept = kept_also inv.0 did.kept }

@@ -19,6 +19,9 @@ module _ {T : Type 0} where
   pub put_held : (xs : List T) (n i : ℕ) (x : T) → i < n → take n (set xs i x) ≡ set (take n xs) i x
   put_held xs n i x h = take-set-lt n xs i x h
 
+  pub push_well : (xs : List T) (n : ℕ) (x : T) → n < length xs → n + 1 ≤ length (set xs n x)
+  push_well xs n x h = omega (arith, length-set xs n x)
+
 module _ {T : Type 0} (b : T) where
   pub push_rest : (xs : List T) (n : ℕ) (x : T) → n < length xs → drop n xs ≡ replicate (length xs - n) b → drop (n + 1) (set xs n x) ≡ replicate (length (set xs n x) - (n + 1)) b
   push_rest xs n x h e =
